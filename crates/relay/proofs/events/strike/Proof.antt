@@ -1,0 +1,25 @@
+use Rattle.relay.specs.Kinds.{blocksAtPedal}
+use Rattle.relay.specs.Relays.{up, raise, lower}
+use Rattle.relay.specs.Events.{struck}
+use Rattle.relay.proofs.Tests.{tests}
+use Rattle.relay.proofs.events.strike.Statement.{statement}
+use Rattle.relay.proofs.events.strike.Tie as tie
+
+returns : tie.Need-returns
+unfolding struck blocksAtPedal up raise lower
+returns c = search tests
+
+returns-2 : tie.Need-returns-2
+unfolding struck blocksAtPedal up raise lower
+returns-2 c = search tests
+
+returns-3 : tie.Need-returns-3
+unfolding struck blocksAtPedal up raise lower
+returns-3 c = search tests
+
+returns-4 : tie.Need-returns-4
+unfolding struck blocksAtPedal up raise lower
+returns-4 c = search tests
+
+pub strike-spec : {M : Type 1} → statement M
+strike-spec = tie.close (tie.spec returns returns-2 returns-3 returns-4)

@@ -1,0 +1,9 @@
+pub mod Choice
+pub mod Answers
+pub mod Kinds
+pub mod Relays
+pub mod Posts
+pub mod Clock
+pub mod Valid
+pub mod Events
+pub mod Line

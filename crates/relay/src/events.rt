@@ -1,0 +1,329 @@
+// The ten events on the post named and its neighbour: a list of refusals for each, and a change for each.
+ghost use mathlib.Core.Path.{_≡_};
+ghost use Rattle.relay.specs.Choice.{grown};
+ghost use Rattle.relay.specs.Events.{reverseRefusal, normalRefusal, announceRefusal, releaseRefusal, garageRefusal, underWayRefusal, restoreRefusal, lacks, ownRefusal, refusal};
+ghost use Rattle.relay.specs.Events.{reversed, normal, passed, struck, announced, released, garaged, releaseUnderWay, arrived, lost, restored, changed, pair};
+use crate::Pair;
+use crate::Post;
+
+// A count, one greater.
+pub fn grow(n: u32) -> u32
+    ensures { λ r. ⌜ r ≡ grown n ⌝ }
+{
+    std::num::wrapping_add_u32(n, 1)
+}
+
+// 1. Reverse the lever.
+pub fn reverse_refusal(kind: u32, w: u32) -> u32
+    ensures { λ r. ⌜ r ≡ reverseRefusal kind w ⌝ }
+{
+    if w & crate::LEVER != 0 {
+        return crate::LEVER_THERE;
+    }
+    if kind == crate::TERMINUS {
+        return 0;
+    }
+    if w & crate::L == 0 {
+        return crate::L_DOWN;
+    }
+    0
+}
+
+pub fn reverse(p: Post) -> Post
+    ensures { λ r. ⌜ r ≡ reversed p ⌝ }
+{
+    let mut h = p;
+    h.word = p.word | crate::LEVER | crate::SIGNAL;
+    h
+}
+
+// 2. Lever to normal.
+pub fn normal_refusal(w: u32) -> u32
+    ensures { λ r. ⌜ r ≡ normalRefusal w ⌝ }
+{
+    if w & crate::LEVER == 0 {
+        return crate::LEVER_THERE;
+    }
+    0
+}
+
+pub fn to_normal(p: Post) -> Post
+    ensures { λ r. ⌜ r ≡ normal p ⌝ }
+{
+    let mut h = p;
+    h.word = p.word & (crate::ALL ^ crate::LEVER) & (crate::ALL ^ crate::SIGNAL);
+    h
+}
+
+// 3. Passage pedal: an early strike is lost.
+pub fn pass(p: Post) -> Post
+    ensures { λ r. ⌜ r ≡ passed p ⌝ }
+{
+    let w = p.word;
+    if w & crate::AN == 0 {
+        return p;
+    }
+    if w & crate::KPG != 0 {
+        return p;
+    }
+    let mut h = p;
+    h.word = w | crate::KPG;
+    h.q = grow(p.q);
+    h
+}
+
+// 4. Signal pedal.
+pub fn strike(p: Post) -> Post
+    ensures { λ r. ⌜ r ≡ struck p ⌝ }
+{
+    let w = p.word;
+    let kind = p.kind;
+    if w & crate::LEVER == 0 {
+        return p;
+    }
+    let mut h = p;
+    h.word = w & (crate::ALL ^ crate::SIGNAL);
+    if kind == crate::ORIGIN {
+        h.word = w & (crate::ALL ^ crate::SIGNAL) & (crate::ALL ^ crate::L);
+        return h;
+    }
+    if kind == crate::PEDAL_STATION {
+        h.word = w & (crate::ALL ^ crate::SIGNAL) & (crate::ALL ^ crate::L);
+        return h;
+    }
+    h
+}
+
+// 5. Announce.
+pub fn announce_refusal(w: u32) -> u32
+    ensures { λ r. ⌜ r ≡ announceRefusal w ⌝ }
+{
+    if w & crate::RL == 0 {
+        return crate::RL_DOWN;
+    }
+    if w & crate::LEVER != 0 {
+        return crate::LEVER_REVERSED;
+    }
+    0
+}
+
+pub fn announce(p: Post) -> Post
+    ensures { λ r. ⌜ r ≡ announced p ⌝ }
+{
+    let mut h = p;
+    h.word = p.word & (crate::ALL ^ crate::RL) & (crate::ALL ^ crate::L) | crate::W314;
+    h.a = grow(p.a);
+    h
+}
+
+// 6. Release.
+pub fn release_refusal(kind: u32, w: u32) -> u32
+    ensures { λ r. ⌜ r ≡ releaseRefusal kind w ⌝ }
+{
+    if w & crate::AN == 0 {
+        return crate::AN_DOWN;
+    }
+    if w & crate::KPG == 0 {
+        return crate::KPG_DOWN;
+    }
+    if kind == crate::TERMINUS {
+        if w & crate::LEVER != 0 {
+            return crate::LEVER_REVERSED;
+        }
+        return 0;
+    }
+    if w & crate::RL != 0 {
+        return crate::RL_UP;
+    }
+    0
+}
+
+pub fn release(p: Post) -> Post
+    ensures { λ r. ⌜ r ≡ released p ⌝ }
+{
+    let mut h = p;
+    h.word = p.word & (crate::ALL ^ crate::AN) & (crate::ALL ^ crate::KPG);
+    h.e = grow(p.e);
+    h
+}
+
+// 7. Garage release: the onward block is not asked.
+pub fn garage_refusal(w: u32) -> u32
+    ensures { λ r. ⌜ r ≡ garageRefusal w ⌝ }
+{
+    if w & crate::AN == 0 {
+        return crate::AN_DOWN;
+    }
+    if w & crate::KPG == 0 {
+        return crate::KPG_DOWN;
+    }
+    0
+}
+
+pub fn garage(p: Post) -> Post
+    ensures { λ r. ⌜ r ≡ garaged p ⌝ }
+{
+    let mut h = release(p);
+    h.c = grow(p.c);
+    h
+}
+
+// 6 and 7: the release is under way in the section upstream.
+pub fn send_release(o: Post) -> Post
+    ensures { λ r. ⌜ r ≡ releaseUnderWay o ⌝ }
+{
+    let mut u = o;
+    u.word = o.word | crate::W241;
+    u
+}
+
+// 8 and 9: something is under way.
+pub fn under_way_refusal(w: u32) -> u32
+    ensures { λ r. ⌜ r ≡ underWayRefusal w ⌝ }
+{
+    if w & crate::W314 != 0 {
+        return 0;
+    }
+    if w & crate::W241 != 0 {
+        return 0;
+    }
+    crate::NOTHING_UNDER_WAY
+}
+
+// 8. Arrival.
+pub fn arrive(p: Post, o: Post) -> Pair
+    ensures { λ r. ⌜ r ≡ arrived p o ⌝ }
+{
+    let w = p.word;
+    let mut h = p;
+    let mut d = o;
+    if w & crate::W314 != 0 {
+        h.word = w & (crate::ALL ^ crate::W314);
+        d.word = o.word | crate::AN;
+        d.r = grow(o.r);
+        return Pair { here: h, other: d };
+    }
+    h.word = w & (crate::ALL ^ crate::W241) | crate::L | crate::RL;
+    h.v = grow(p.v);
+    Pair { here: h, other: o }
+}
+
+// 9. Loss.
+pub fn lose(p: Post) -> Post
+    ensures { λ r. ⌜ r ≡ lost p ⌝ }
+{
+    let w = p.word;
+    let mut h = p;
+    if w & crate::W314 != 0 {
+        h.word = w & (crate::ALL ^ crate::W314);
+        h.x = grow(p.x);
+        return h;
+    }
+    h.word = w & (crate::ALL ^ crate::W241);
+    h.y = grow(p.y);
+    h
+}
+
+// 10. Restoration by the supervisor.
+pub fn restore_refusal(w: u32, z: u32) -> u32
+    ensures { λ r. ⌜ r ≡ restoreRefusal w z ⌝ }
+{
+    if w & crate::RL != 0 {
+        return crate::SECTION_FREE;
+    }
+    if w & crate::W314 != 0 {
+        return crate::SIGNAL_UNDER_WAY;
+    }
+    if w & crate::W241 != 0 {
+        return crate::SIGNAL_UNDER_WAY;
+    }
+    if z & crate::AN != 0 {
+        return crate::AN_UP;
+    }
+    0
+}
+
+pub fn restore(p: Post) -> Post
+    ensures { λ r. ⌜ r ≡ restored p ⌝ }
+{
+    let mut h = p;
+    h.word = p.word | crate::L | crate::RL;
+    h.g = grow(p.g);
+    h
+}
+
+// 6: a post of this kind lacks the device of the event.
+pub fn lacks_device(number: u32, kind: u32) -> bool
+    ensures { λ r. ⌜ r ≡ lacks number kind ⌝ }
+{
+    if number == 3 {
+        return kind == crate::ORIGIN;
+    }
+    if number == 4 {
+        return !((kind == crate::ORIGIN)
+            | ((kind == crate::TERMINUS) | (kind == crate::PEDAL_STATION)));
+    }
+    if number == 5 {
+        return kind == crate::TERMINUS;
+    }
+    if number == 6 {
+        return kind == crate::ORIGIN;
+    }
+    if number == 7 {
+        return !((kind == crate::PEDAL_STATION) | (kind == crate::ANNOUNCEMENT_STATION));
+    }
+    false
+}
+
+// The event's own list, by its number; `w` is the word of the post named, `z` its neighbour's.
+pub fn own_refusal(number: u32, kind: u32, w: u32, z: u32) -> u32
+    ensures { λ r. ⌜ r ≡ ownRefusal number kind w z ⌝ }
+{
+    match number {
+        1 => reverse_refusal(kind, w),
+        2 => normal_refusal(w),
+        5 => announce_refusal(w),
+        6 => release_refusal(kind, w),
+        7 => garage_refusal(w),
+        8 => under_way_refusal(w),
+        9 => under_way_refusal(w),
+        10 => restore_refusal(w, z),
+        _ => 0,
+    }
+}
+
+// 6, then the event's own list.
+pub fn refusal_of(number: u32, kind: u32, w: u32, z: u32) -> u32
+    ensures { λ r. ⌜ r ≡ refusal number kind w z ⌝ }
+{
+    if lacks_device(number, kind) {
+        return crate::NO_DEVICE;
+    }
+    own_refusal(number, kind, w, z)
+}
+
+// The post named alone, altered.
+pub fn with_here(p: Post, o: Post) -> Pair
+    ensures { λ r. ⌜ r ≡ pair p o ⌝ }
+{
+    Pair { here: p, other: o }
+}
+
+// What the event, taken, makes of the two posts.
+pub fn change(number: u32, p: Post, o: Post) -> Pair
+    ensures { λ r. ⌜ r ≡ changed number p o ⌝ }
+{
+    match number {
+        1 => with_here(reverse(p), o),
+        2 => with_here(to_normal(p), o),
+        3 => with_here(pass(p), o),
+        4 => with_here(strike(p), o),
+        5 => with_here(announce(p), o),
+        6 => with_here(release(p), send_release(o)),
+        7 => with_here(garage(p), send_release(o)),
+        8 => arrive(p, o),
+        9 => with_here(lose(p), o),
+        10 => with_here(restore(p), o),
+        _ => with_here(p, o),
+    }
+}
