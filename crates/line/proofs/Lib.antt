@@ -1,0 +1,3 @@
+pub mod Last
+pub mod Table
+pub mod Pass
