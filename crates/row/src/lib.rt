@@ -1,0 +1,120 @@
+// A row of at most 32 records by value, for callers that keep the line themselves: the same definitions as over the lent row.
+ghost use mathlib.Core.Path.{_≡_};
+ghost use Rattle.relay.specs.Valid.{valid};
+ghost use Rattle.relay.specs.Posts.{blank};
+ghost use Rattle.row.specs.Row.{lineOf, eventRow, startRow};
+use relay::Head;
+use relay::Post;
+use relay::Told;
+
+pub struct Row {
+    pub posts: [Post; 32],
+    pub n: usize,
+}
+
+// What a call returns, and the row that it leaves.
+pub struct Stood {
+    pub told: Told,
+    pub row: Row,
+}
+
+// Whether the row's line may be used with this head.
+pub fn valid_row(row: Row, s: Head) -> bool
+    ensures { λ r. ⌜ r ≡ valid (lineOf row) s ⌝ }
+{
+    let n = row.n;
+    let taken = s.taken;
+    let posts = row.posts;
+    if !line::usable(n, s) {
+        return false;
+    }
+    let mut i: usize = 0;
+    let mut j: usize = 1;
+    while j < n {
+        if !line::pair_ok(posts[i], posts[j], i, n, taken) {
+            return false;
+        }
+        i = j;
+        j += 1;
+    }
+    true
+}
+
+// One event on the row.
+pub fn event_row(row: Row, s: Head, number: u32, place: u32, stamp: u32) -> Stood
+    ensures { λ r. ⌜ r ≡ eventRow row s number place stamp ⌝ }
+{
+    if !valid_row(row, s) {
+        let told = relay::gate::refuse(relay::NOT_VALID, s);
+        return Stood {
+            told: told,
+            row: row,
+        };
+    }
+    let no = relay::gate::gate_refusal(row.n, s, number, place, stamp);
+    if no != 0 {
+        let told = relay::gate::refuse(no, s);
+        return Stood {
+            told: told,
+            row: row,
+        };
+    }
+    let i = place as usize;
+    let j = relay::gate::neighbour_of(number, place);
+    let out = relay::gate::work(row.posts[i], row.posts[j], s, number, stamp);
+    let here = out.here;
+    let other = out.other;
+    let told = out.told;
+    let mut next = row;
+    next.posts[i] = here;
+    next.posts[j] = other;
+    Stood {
+        told: told,
+        row: next,
+    }
+}
+
+// What stands past the end of a row.
+pub fn blank_post() -> Post
+    ensures { λ r. ⌜ r ≡ blank ⌝ }
+{
+    Post {
+        word: 0,
+        kind: 0,
+        a: 0,
+        x: 0,
+        y: 0,
+        v: 0,
+        g: 0,
+        r: 0,
+        q: 0,
+        e: 0,
+        c: 0,
+    }
+}
+
+// A row started from a table of kinds.
+pub fn start_row(kinds: &[u32], stamp: u32) -> Stood
+    ensures { λ r. ⌜ r ≡ startRow (now (kinds .entry)) stamp ⌝ }
+{
+    let n = kinds.len();
+    let b = blank_post();
+    let mut posts = [b; 32];
+    if !line::may_start(n, kinds) {
+        let told = relay::gate::tell(relay::NOT_VALID, 0, 0);
+        return Stood {
+            told: told,
+            row: Row { posts: posts, n: 0 },
+        };
+    }
+    let mut i: usize = 0;
+    while i < n {
+        posts[i] = line::fresh(kinds[i]);
+        i += 1;
+    }
+    let told = relay::gate::tell(relay::TAKEN, 0, stamp);
+    Stood {
+        told: told,
+        row: Row { posts: posts, n: n },
+    }
+}
