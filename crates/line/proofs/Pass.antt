@@ -14,7 +14,6 @@ use lib.ListN.{length, drop, length-drop}
 use lib.Seq.{drop-cons}
 use lib.Dec.{eqb, leb}
 use borrow.Author.Tests.{eq-eqb, ne-eqb}
-use Rattle.relay.specs.Choice.{requires}
 use Rattle.relay.specs.Kinds.{countFits}
 use Rattle.relay.specs.Posts.{at, blank}
 use Rattle.relay.specs.Valid.{postOk, postsOk, sectionOk, sectionsFrom, sectionsOk, mostEvents, valid}

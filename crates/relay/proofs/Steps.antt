@@ -5,20 +5,20 @@
 --     gate-open        what the gate has tested when it gives 0
 --     in-row           past them, the post named and its neighbour are two posts of the line
 -- Assumes nothing.
-use mathlib.Core.Path.{_≡_, refl, sym, _∙_, ap, subst}
+use mathlib.Core.Path.{_≡_, refl, sym, _∙_, ap}
 use Prim.Native.Nat.{ℕ, zero, suc, _<_, _≤_, _+_, _-_}
 use native.Mathlib.Omega.{arith}
 use mathlib.Core.Bool.{Bool, true, false, not, _&&_, _||_}
 use mathlib.Core.List.{List, [], _∷_}
 use lib.Dec.{eqb, leb, ltb}
 use lib.ListN.{length, set}
-use borrow.Author.Tests.{eq-eqb, ne-eqb, leb-true, ltb-true, eqb-true, eqb-false, not-false}
+use borrow.Author.Tests.{ne-eqb, leb-true, ltb-true, eqb-true, eqb-false, not-false}
 use Rattle.relay.specs.Answers.{notValid, noSuchEvent, noSuchPlace, sessionFull, stampBehind}
 use Rattle.relay.specs.Choice.{pick}
 use Rattle.relay.specs.Clock.{behind}
-use Rattle.relay.specs.Events.{pair, refusal, changed}
+use Rattle.relay.specs.Events.{pair, refusal}
 use Rattle.relay.specs.Kinds.{countFits}
-use Rattle.relay.specs.Line.{After, after, told, numbered, namesSection, present, neighbour, gate, answerOf, changedLine, eventOf, worked, workOf}
+use Rattle.relay.specs.Line.{after, told, numbered, namesSection, present, neighbour, gate, answerOf, changedLine, eventOf, worked, workOf}
 use Rattle.relay.specs.Posts.{at}
 use Rattle.relay.specs.Valid.{mostEvents, valid}
 use Rattle.relay.specs.declared.Head.{Head}

@@ -3,7 +3,7 @@
 -- Assumes nothing.
 use Prim.Native.Nat.{ℕ}
 use mathlib.Core.Bool.{Bool, false, not, _&&_, _||_}
-use lib.Dec.{eqb, leb}
+use lib.Dec.{eqb}
 use Rattle.relay.specs.Answers.{leverThere, lDown, rlDown, leverReversed, anDown, kpgDown, rlUp, nothingUnderWay, sectionFree, signalUnderWay, anUp, noDevice}
 use Rattle.relay.specs.Choice.{pick}
 use Rattle.relay.specs.Kinds.{origin, terminus, hasSignalPedal, hasPassagePedal, hasGarageRelease, blocksAtPedal}

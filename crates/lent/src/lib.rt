@@ -1,0 +1,62 @@
+// The calls on a lent row of post records. None copies the row.
+ghost use mathlib.Core.Path.{_≡_};
+ghost use Rattle.relay.specs.Line.{startOf, eventOf, Gives};
+ghost use Rattle.relay.specs.Valid.{valid};
+use relay::Head;
+use relay::Post;
+use relay::Told;
+
+// Whether the line may be used: one pass over the records, left at the first that breaks a rule.
+pub fn valid(row: &[Post], s: Head) -> bool
+    ensures { λ r. ⌜ r ≡ valid (now (row .entry)) s ⌝ }
+{
+    let n = row.len();
+    if !line::usable(n, s) {
+        return false;
+    }
+    let mut i: usize = 0;
+    let mut j: usize = 1;
+    while j < n {
+        if !line::pair_ok(row[i], row[j], i, n, s.taken) {
+            return false;
+        }
+        i = j;
+        j += 1;
+    }
+    true
+}
+
+// A fresh line from a table of kinds; refused, the row is as it was and the head is of zeros.
+pub fn start(row: &mut [Post], kinds: &[u32], stamp: u32) -> Told
+    ensures { λ r. ⌜ Gives (startOf (now (row .entry)) (now (kinds .entry)) stamp) r (now (row .exit)) ⌝ }
+{
+    let n = row.len();
+    if !line::may_start(n, kinds) {
+        return relay::gate::tell(relay::NOT_VALID, 0, 0);
+    }
+    let mut i: usize = 0;
+    while i < n {
+        row[i] = line::fresh(kinds[i]);
+        i += 1;
+    }
+    relay::gate::tell(relay::TAKEN, 0, stamp)
+}
+
+// One event: the post or section `place`, and at most one neighbour of it, altered in place; refused, the row is as it was.
+pub fn event(row: &mut [Post], s: Head, number: u32, place: u32, stamp: u32) -> Told
+    ensures { λ r. ⌜ Gives (eventOf (now (row .entry)) s number place stamp) r (now (row .exit)) ⌝ }
+{
+    if !valid(row, s) {
+        return relay::gate::refuse(relay::NOT_VALID, s);
+    }
+    let no = relay::gate::gate_refusal(row.len(), s, number, place, stamp);
+    if no != 0 {
+        return relay::gate::refuse(no, s);
+    }
+    let i = place as usize;
+    let j = relay::gate::neighbour_of(number, place);
+    let out = relay::gate::work(row[i], row[j], s, number, stamp);
+    row[i] = out.here;
+    row[j] = out.other;
+    out.told
+}
