@@ -1,3 +1,4 @@
 pub mod Part
 pub mod Starts
 pub mod Acts
+pub mod Held

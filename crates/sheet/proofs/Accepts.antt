@@ -1,0 +1,183 @@
+-- An accepted sheet is a good one, and a good one is accepted: each test of a block is its facts, word by word.
+-- Assumes nothing.
+use Prim.Native.Nat.{ℕ, zero, suc, _+_, _-_, _*_, _/_, _%_, _^_, _≤_, _<_}
+use mathlib.Core.Path.{_≡_, refl, sym, ap, subst, _∙_}
+use mathlib.Core.Logic.{⊎-elim, _↔_}
+use mathlib.Core.Bool.{Bool, true, false, _&&_, _||_, false≢true}
+use mathlib.Core.List.{List}
+use native.Mathlib.Nat.{eq-or-lt-of-le}
+use native.Mathlib.Omega.{arith}
+use borrow.Author.Tests.{eq-eqb, ne-eqb, eqb-true, eqb-false, ltb-true, lt-ltb, leb-true, le-leb}
+use lib.Dec.{eqb, leb, ltb}
+use lib.ListN.{length}
+use Rattle.relay.proofs.Truth.{and-facts}
+use Rattle.relay.specs.Choice.{pick}
+use Rattle.relay.specs.Kinds.{tableOk}
+use Rattle.sheet.specs.Layout.{blockBytes, blockWords, checkAt, mostBlocks, perBlock}
+use Rattle.sheet.specs.Check.{sum, word, target, checks}
+use Rattle.sheet.specs.Entry.{upperZero}
+use Rattle.sheet.specs.Reading.{kindsIn, headOk, eventsFit, eventsOk, entriesOk, zeros, contentsOk, lengthOk, blocksIn, verdictOf}
+use Rattle.sheet.proofs.Good.{Good}
+use Rattle.sheet.proofs.Lengths.{Whole, whole}
+use Rattle.sheet.proofs.Table.{table-few}
+use Rattle.sheet.proofs.First.{GoodBlock, AllGood, good-blocks}
+
+-- ---- the loops, by index
+zeros-all : (s : List ℕ) (b k n : ℕ) → zeros s b k n ≡ true → (j : ℕ) → k ≤ j → j < k + n → word s b j ≡ 0
+unfolding zeros
+zeros-all s b k zero e j p q = absurd (omega arith)
+zeros-all s b k (suc n) e j p q =
+    let f = and-facts (eqb (word s b k) 0) (zeros s b (k + 1) n) .0 e in
+    ⊎-elim (λ t. rw (← t) (eqb-true (word s b k) 0 (f .0))) (λ l. zeros-all s b (k + 1) n (f .1) j (omega arith) (omega arith)) (eq-or-lt-of-le p)
+
+all-zeros : (s : List ℕ) (b k n : ℕ) → ((j : ℕ) → k ≤ j → j < k + n → word s b j ≡ 0) → zeros s b k n ≡ true
+unfolding zeros
+all-zeros s b k zero f = refl
+all-zeros s b k (suc n) f =
+    rw (eq-eqb (word s b k) 0 (f k (omega arith) (omega arith))) (all-zeros s b (k + 1) n (λ j p q. f j (omega arith) (omega arith)))
+
+entries-all : (s : List ℕ) (b k n : ℕ) → entriesOk s b k n ≡ true → (j : ℕ) → k ≤ j → j < k + n → word s b (1 + j * 2) < 65536
+unfolding entriesOk upperZero
+entries-all s b k zero e j p q = absurd (omega arith)
+entries-all s b k (suc n) e j p q =
+    let f = and-facts (ltb (word s b (1 + k * 2)) 65536) (entriesOk s b (k + 1) n) .0 e in
+    ⊎-elim (λ t. rw (← t) (ltb-true (word s b (1 + k * 2)) 65536 (f .0))) (λ l. entries-all s b (k + 1) n (f .1) j (omega arith) (omega arith)) (eq-or-lt-of-le p)
+
+all-entries : (s : List ℕ) (b k n : ℕ) → ((j : ℕ) → k ≤ j → j < k + n → word s b (1 + j * 2) < 65536) → entriesOk s b k n ≡ true
+unfolding entriesOk upperZero
+all-entries s b k zero f = refl
+all-entries s b k (suc n) f =
+    rw (lt-ltb (word s b (1 + k * 2)) 65536 (f k (omega arith) (omega arith))) (all-entries s b (k + 1) n (λ j p q. f j (omega arith) (omega arith)))
+
+-- ---- block 0
+pub record GoodHead (s : List ℕ) : Type 0 where
+  pub first : word s 0 0 ≡ 1
+  pub table : tableOk (kindsIn s) ≡ true
+  pub rest : (k : ℕ) → 3 + word s 0 1 ≤ k → k < checkAt → word s 0 k ≡ 0
+
+head-iff : (s : List ℕ) → (headOk s ≡ true) ↔ GoodHead s
+unfolding headOk
+head-iff s = (
+  λ e.
+      let f = and-facts (eqb (word s 0 0) 1 && tableOk (kindsIn s)) (zeros s 0 (3 + word s 0 1) (checkAt - (3 + word s 0 1))) .0 e in
+      let g = and-facts (eqb (word s 0 0) 1) (tableOk (kindsIn s)) .0 (f .0) in
+      record {
+        first = eqb-true (word s 0 0) 1 (g .0);
+        table = g .1;
+        rest = λ k p q. zeros-all s 0 (3 + word s 0 1) (checkAt - (3 + word s 0 1)) (f .1) k p (omega arith);
+      },
+  λ r.
+      rw (eq-eqb (word s 0 0) 1 (r .first), r .table)
+      (all-zeros s 0 (3 + word s 0 1) (checkAt - (3 + word s 0 1)) (λ j p q. r .rest j p (omega (arith, table-few s (r .table))))),
+)
+
+-- ---- a later block
+pub record GoodEvents (s : List ℕ) (b : ℕ) (last : Bool) : Type 0 where
+  pub few : 1 ≤ word s b 0
+  pub many : word s b 0 ≤ perBlock
+  pub full : last ≡ false → word s b 0 ≡ perBlock
+  pub fields : (j : ℕ) → j < word s b 0 → word s b (1 + j * 2) < 65536
+  pub zero : (k : ℕ) → 1 + word s b 0 * 2 ≤ k → k < checkAt → word s b k ≡ 0
+
+fit-iff : (m : ℕ) (last : Bool) → (eventsFit m last ≡ true) ↔ ((1 ≤ m) × (m ≤ perBlock) × (last ≡ false → m ≡ perBlock))
+unfolding eventsFit
+fit-iff m true = (
+  λ e. let f = and-facts (leb 1 m && leb m perBlock) true .0 e in let g = and-facts (leb 1 m) (leb m perBlock) .0 (f .0) in (leb-true 1 m (g .0), leb-true m perBlock (g .1), λ z. absurd (false≢true (sym z))),
+  λ r. rw (le-leb 1 m (r .0), le-leb m perBlock (r .1)),
+)
+fit-iff m false = (
+  λ e. let f = and-facts (leb 1 m && leb m perBlock) (eqb m perBlock) .0 e in let g = and-facts (leb 1 m) (leb m perBlock) .0 (f .0) in (leb-true 1 m (g .0), leb-true m perBlock (g .1), λ z. eqb-true m perBlock (f .1)),
+  λ r. rw (le-leb 1 m (r .0), le-leb m perBlock (r .1), eq-eqb m perBlock (r .2 refl)),
+)
+
+events-iff : (s : List ℕ) (b : ℕ) (last : Bool) → (eventsOk s b last ≡ true) ↔ GoodEvents s b last
+unfolding eventsOk
+events-iff s b last = (
+  λ e.
+      let m = word s b 0 in
+      let f = and-facts (eventsFit m last) (entriesOk s b 0 m && zeros s b (1 + m * 2) (checkAt - (1 + m * 2))) .0 e in
+      let g = fit-iff m last .0 (f .0) in
+      let i = and-facts (entriesOk s b 0 m) (zeros s b (1 + m * 2) (checkAt - (1 + m * 2))) .0 (f .1) in
+      record {
+        few = g .0;
+        many = g .1;
+        full = g .2;
+        fields = λ j q. entries-all s b 0 m (i .0) j (omega arith) (omega arith);
+        zero = λ k p q. zeros-all s b (1 + m * 2) (checkAt - (1 + m * 2)) (i .1) k p (omega arith);
+      },
+  λ r.
+      let m = word s b 0 in
+      rw (fit-iff m last .1 (r .few, r .many, r .full), all-entries s b 0 m (λ j p q. r .fields j (omega arith)))
+      (all-zeros s b (1 + m * 2) (checkAt - (1 + m * 2)) (λ j p q. r .zero j p (omega (arith, r .many)))),
+)
+
+-- ---- the sheet
+module _ (s : List ℕ) where
+  abbrev n : ℕ
+  n = blocksIn (length s)
+
+  check-is : (b : ℕ) → (checks s b ≡ true) ↔ (sum (word s b) blockWords % 2 ^ 32 ≡ target b)
+  unfolding checks
+  check-is b = (λ e. eqb-true _ _ e, λ e. eq-eqb _ _ e)
+
+  later : (b : ℕ) → 1 ≤ b → GoodBlock s n b → GoodEvents s b (eqb (b + 1) n)
+  later b h g = events-iff s b (eqb (b + 1) n) .0 (rw (ne-eqb b 0 (λ z. omega arith)) at (g .filled))
+
+  pub accepted-good : verdictOf s .number ≡ 0 → Good n s
+  accepted-good z =
+      let f = good-blocks s .0 z in
+      let w = whole (length s) (f .0) in
+      let g : (b : ℕ) → b < n → GoodBlock s n b = λ b q. f .1 b (omega arith) q in
+      let o = head-iff s .0 (g 0 (omega (arith, w .some)) .filled) in
+      record {
+        some = w .some;
+        most = w .most;
+        long = sym (w .long);
+        sums = λ b q. check-is b .0 (g b q .checked);
+        first = o .first;
+        table = o .table;
+        rest = o .rest;
+        few = λ b h q. later b h (g b q) .few;
+        many = λ b h q. later b h (g b q) .many;
+        full = λ b h q. later b h (g b (omega arith)) .full (ne-eqb (b + 1) n (λ e. omega arith));
+        fields = λ b h q. later b h (g b q) .fields;
+        zero = λ b h q. later b h (g b q) .zero;
+      }
+
+  block-of : Good n s → (b : ℕ) → b < n → (t : Bool) → eqb b 0 ≡ t → contentsOk s n b ≡ true
+  block-of r b q true e = rw e (head-iff s .1 (record { first = r .first; table = r .table; rest = r .rest }))
+  block-of r b q false e =
+      let h : 1 ≤ b = below b (eqb-false b 0 e) in
+      rw e
+      (events-iff s b (eqb (b + 1) n) .1
+      (record {
+        few = r .few b h q;
+        many = r .many b h q;
+        full = λ z. r .full b h (lower (b + 1) n (omega arith) (eqb-false (b + 1) n z));
+        fields = r .fields b h q;
+        zero = r .zero b h q;
+      }))
+    where
+      below : (b : ℕ) → (b ≡ 0 → ⊥) → 1 ≤ b
+      below b f = omega arith
+
+      lower : (c m : ℕ) → c ≤ m → (c ≡ m → ⊥) → c < m
+      lower c m h f = omega arith
+
+  good-length : Good n s → lengthOk (length s) ≡ true
+  unfolding lengthOk
+  good-length r =
+      let l : length s ≡ n * blockBytes = r .long in
+      let a = r .some in
+      let m = r .most in
+      rw (eq-eqb (length s % blockBytes) 0 (omega arith), le-leb blockBytes (length s) (omega arith), le-leb (length s) (mostBlocks * blockBytes) (omega arith))
+
+  pub good-accepted : Good n s → verdictOf s .number ≡ 0
+  good-accepted r =
+      good-blocks s .1 (
+        good-length r,
+        λ b p q. record {
+          checked = check-is b .1 (r .sums b q);
+          filled = block-of r b q (eqb b 0) refl;
+        },
+      )

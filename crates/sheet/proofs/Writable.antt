@@ -1,0 +1,75 @@
+-- A sheet that can be written, as plain facts: what writing does not refuse, and what its numbers are by their types. Its words then all fit.
+-- Assumes nothing.
+use mathlib.Core.Path.{_≡_, refl}
+use Prim.Native.Nat.{ℕ, suc, _+_, _*_, _^_, _≤_, _<_}
+use mathlib.Core.Bool.{Bool, true, false, not}
+use borrow.Author.Tests.{leb-true}
+use lib.Dec.{leb, ltb}
+use lib.ListN.{length}
+use native.Mathlib.Omega.{arith}
+use Rattle.relay.specs.Kinds.{tableOk}
+use Rattle.relay.specs.Choice.{pick}
+use Rattle.sheet.specs.Layout.{mostEntries, perBlock, checkAt}
+use Rattle.sheet.specs.Check.{sum}
+use Rattle.sheet.specs.Entry.{stampOf}
+use Rattle.sheet.specs.Sheet.{Sheet, eventAt, held, eventsWord, bodyWord, sheetWord}
+use Rattle.sheet.specs.Writing.{allInFields, writeNumber}
+use Rattle.sheet.proofs.Sums.{seal-small}
+use Rattle.sheet.proofs.Bytes.{Below}
+use Rattle.sheet.proofs.BlockWords.{head-small, events-count, events-word, events-stamp, events-zero, body-events}
+use Rattle.sheet.proofs.Fields.{In, fields, each}
+use Rattle.sheet.proofs.Packing.{packed-small}
+use Rattle.sheet.proofs.Laid.{table-few}
+use Rattle.sheet.proofs.Places.{by-block, by-place}
+
+-- writing refuses none of it, but for the room; an event is four numbers, and each number is one of 32 bits
+pub record Writable (t : Sheet) : Type 0 where
+  pub table : tableOk (t .kinds) ≡ true
+  pub fields : allInFields (t .events) ≡ true
+  pub most : length (t .events) ≤ mostEntries
+  pub stamp : t .stamp < 2 ^ 32
+  pub kinds : Below (2 ^ 32) (t .kinds)
+  pub four : (i : ℕ) → i < length (t .events) → length (eventAt t i) ≡ 4
+  pub stamps : (i : ℕ) → i < length (t .events) → stampOf (eventAt t i) < 2 ^ 32
+
+-- a refusal that was not given has its test passed
+gate : (x : Bool) (k y : ℕ) → pick (not x) (suc k) y ≡ 0 → (x ≡ true) × (y ≡ 0)
+gate true k y e = (refl, e)
+gate false k y e = absurd (omega arith)
+
+-- the first three facts are what writing tests before the room
+pub not-refused : (t : Sheet) (m : ℕ) → writeNumber t m ≡ 0 → (tableOk (t .kinds) ≡ true) × (allInFields (t .events) ≡ true) × (length (t .events) ≤ mostEntries)
+unfolding writeNumber
+not-refused t m e =
+    let a = gate (tableOk (t .kinds)) 0 _ e in
+    let b = gate (allInFields (t .events)) 19 _ (a .1) in
+    let c = gate (leb (length (t .events)) mostEntries) 17 _ (b .1) in
+    (a .0, b .0, leb-true (length (t .events)) mostEntries (c .0))
+
+below-pick : (m : ℕ) (t : Bool) (x y : ℕ) → x < m → y < m → pick t x y < m
+below-pick m true x y a b = a
+below-pick m false x y a b = b
+
+module _ (t : Sheet) (w : Writable t) where
+  pub in-fields : (i : ℕ) → i < length (t .events) → In (eventAt t i)
+  in-fields i h = fields (eventAt t i) (each (t .events) (w .fields) i h)
+
+  events-small : (c k : ℕ) → eventsWord t c k < 2 ^ 32
+  events-small c =
+      by-place (λ k. eventsWord t c k < 2 ^ 32) (held (length (t .events)) c)
+      (rw (events-count t c) (omega arith))
+      (λ j h. rw (events-word t c j h) (omega (arith, packed-small (eventAt t (c * perBlock + j)) (in-fields (c * perBlock + j) (omega arith)))))
+      (λ j h. rw (events-stamp t c j h) (w .stamps (c * perBlock + j) (omega arith)))
+      (λ k h. rw (events-zero t c k h) (omega arith))
+
+  body-small : (b k : ℕ) → bodyWord t b k < 2 ^ 32
+  body-small b k =
+      by-block (λ b. bodyWord t b k < 2 ^ 32)
+      (head-small t (omega (arith, table-few (t .kinds) (w .table))) (w .stamp) (w .kinds) k)
+      (λ c. rw (body-events t c k) (events-small c k))
+      b
+
+  -- every word of the sheet is one of 32 bits
+  pub sheet-small : (b k : ℕ) → sheetWord t b k < 2 ^ 32
+  unfolding sheetWord
+  sheet-small b k = below-pick (2 ^ 32) (ltb k checkAt) _ _ (body-small b k) (seal-small (sum (bodyWord t b) checkAt) b)

@@ -1,0 +1,248 @@
+-- `sheet::blocks::first_bad` meets its contract: at each turn what is left of the blocks, of the events and of the words decides.
+-- Assumes nothing.
+use Prim.Native.Nat.{ℕ, _+_, _-_, _*_, _≤_, _<_, _%_, _^_}
+use mathlib.Core.Path.{_≡_, refl, sym, ap, _∙_}
+use mathlib.Core.Bool.{Bool, true, false, _&&_}
+use native.Mathlib.Nat.{sub-zero}
+use native.Mathlib.Omega.{arith}
+use borrow.Author.Tests.{eq-eqb, ne-eqb, not-true, not-false}
+use Rattle.relay.proofs.Tests.{tests}
+use Rattle.sheet.specs.Check.{word, sum, checks, target}
+use Rattle.sheet.specs.Entry.{upperZero}
+use Rattle.sheet.specs.Reading.{entriesOk, zeros, firstBad, verdict}
+use Rattle.sheet.specs.Shape.{shapeOf}
+use Rattle.sheet.proofs.Contents.{fills, Inside, shape-inside, entries-more, entries-bad, entries-done, zeros-more, zeros-bad, zeros-done, bad-check, bad-contents, good-block, no-more}
+use Rattle.sheet.proofs.blocks.first_bad.Statement.{statement}
+use Rattle.sheet.proofs.blocks.first_bad.Tie as tie
+
+abbrev Inv-loop : tie.InvT-loop
+Inv-loop s n b at shape events j₀ j = (j ≤ events) × (events ≤ 60) × (entriesOk s b j (events - j) ≡ entriesOk s b 0 events)
+
+abbrev μ-loop : tie.MeasureT-loop
+μ-loop s n b at shape events j₀ j = events - j
+
+abbrev Inv-loop2 : tie.InvT-loop2
+Inv-loop2 s n b at events j k₀ k = (k ≤ 127) × (zeros s b k (127 - k) ≡ zeros s b k₀ (127 - k₀))
+
+abbrev μ-loop2 : tie.MeasureT-loop2
+μ-loop2 s n b at events j k₀ k = 127 - k
+
+abbrev Inv-blocks2 : tie.InvT-blocks2
+Inv-blocks2 s n b₀ b = (b ≤ n) × (firstBad s n b (n - b) ≡ firstBad s n 0 n)
+
+abbrev μ-blocks2 : tie.MeasureT-blocks2
+μ-blocks2 s n b₀ b = n - b
+
+-- past the first test the block checks
+checked : (c : tie.Else2 Inv-loop μ-loop Inv-loop2 μ-loop2 Inv-blocks2 μ-blocks2) → checks (c .before .before .before .before .before .args .s .now) (c .before .before .before .blocks2 .b) ≡ true
+unfolding checks
+checked c = eq-eqb _ _ (sym (c .before .sum-words .ensures) ∙ c .if2 .left)
+
+-- a block that checks and whose contents are wrong is named, with 20
+named : (c : tie.Else2 Inv-loop μ-loop Inv-loop2 μ-loop2 Inv-blocks2 μ-blocks2) → fills (c .before .before .before .before .before .args .s .now) (c .before .before .before .blocks2 .b) (shapeOf (c .before .before .before .before .before .args .s .now) (c .before .before .before .before .before .args .n) (c .before .before .before .blocks2 .b)) ≡ false
+    → verdict 20 (c .before .before .before .blocks2 .b) ≡ firstBad (c .before .before .before .before .before .args .s .now) (c .before .before .before .before .before .args .n) 0 (c .before .before .before .before .before .args .n)
+named c bad =
+    let o = c .before .before .before in
+    let a = o .before .before .args in
+    sym (bad-contents (a .s .now) (a .n) (o .blocks2 .b) (omega arith) (checked c) bad) ∙ o .blocks2 .inv .1
+
+-- past the second its shape is right
+shaped : (c : tie.Else3 Inv-loop μ-loop Inv-loop2 μ-loop2 Inv-blocks2 μ-blocks2) → shapeOf (c .before .before .before .before .before .before .before .before .args .s .now) (c .before .before .before .before .before .before .before .before .args .n) (c .before .before .before .before .before .before .blocks2 .b) .ok ≡ true
+shaped c = rw (← c .before .before .shape-of .ensures) (not-false _ (c .if3 .left))
+
+within : (c : tie.Else3 Inv-loop μ-loop Inv-loop2 μ-loop2 Inv-blocks2 μ-blocks2) → Inside (c .before .before .shape-of .result)
+within c = rw (c .before .before .shape-of .ensures) (shape-inside _ _ _ (shaped c))
+
+blocks2-holds : tie.Need-blocks2-holds Inv-loop μ-loop Inv-loop2 μ-loop2 Inv-blocks2 μ-blocks2
+blocks2-holds c = (search tests, rw sub-zero)
+
+cast-at : tie.Need-cast-at Inv-loop μ-loop Inv-loop2 μ-loop2 Inv-blocks2 μ-blocks2
+cast-at c = search tests
+
+mul-at : tie.Need-mul-at Inv-loop μ-loop Inv-loop2 μ-loop2 Inv-blocks2 μ-blocks2
+mul-at c = search tests
+
+cast-sum-words : tie.Need-cast-sum-words Inv-loop μ-loop Inv-loop2 μ-loop2 Inv-blocks2 μ-blocks2
+cast-sum-words c = search tests
+
+sum-words-requires :
+    tie.Need-sum-words-requires Inv-loop μ-loop Inv-loop2 μ-loop2 Inv-blocks2 μ-blocks2
+sum-words-requires c κs = search tests
+
+add-if2 : tie.Need-add-if2 Inv-loop μ-loop Inv-loop2 μ-loop2 Inv-blocks2 μ-blocks2
+add-if2 c = search tests
+
+shape-of-requires :
+    tie.Need-shape-of-requires Inv-loop μ-loop Inv-loop2 μ-loop2 Inv-blocks2 μ-blocks2
+shape-of-requires c κs = search tests
+
+loop-holds : tie.Need-loop-holds Inv-loop μ-loop Inv-loop2 μ-loop2 Inv-blocks2 μ-blocks2
+loop-holds c = (search tests, within c .events, rw sub-zero)
+
+mul-get-word : tie.Need-mul-get-word Inv-loop μ-loop Inv-loop2 μ-loop2 Inv-blocks2 μ-blocks2
+mul-get-word c = search tests
+
+add-get-word : tie.Need-add-get-word Inv-loop μ-loop Inv-loop2 μ-loop2 Inv-blocks2 μ-blocks2
+add-get-word c = search tests
+
+mul-get-word-2 : tie.Need-mul-get-word-2 Inv-loop μ-loop Inv-loop2 μ-loop2 Inv-blocks2 μ-blocks2
+mul-get-word-2 c = search tests
+
+add-get-word-2 : tie.Need-add-get-word-2 Inv-loop μ-loop Inv-loop2 μ-loop2 Inv-blocks2 μ-blocks2
+add-get-word-2 c = search tests
+
+get-word-requires :
+    tie.Need-get-word-requires Inv-loop μ-loop Inv-loop2 μ-loop2 Inv-blocks2 μ-blocks2
+get-word-requires c κs = search tests
+
+upper-zero-requires :
+    tie.Need-upper-zero-requires Inv-loop μ-loop Inv-loop2 μ-loop2 Inv-blocks2 μ-blocks2
+upper-zero-requires c κs = search tests
+
+add-j : tie.Need-add-j Inv-loop μ-loop Inv-loop2 μ-loop2 Inv-blocks2 μ-blocks2
+add-j c = search tests
+
+loop-less : tie.Need-loop-less Inv-loop μ-loop Inv-loop2 μ-loop2 Inv-blocks2 μ-blocks2
+loop-less c = search tests
+
+loop-again : tie.Need-loop-again Inv-loop μ-loop Inv-loop2 μ-loop2 Inv-blocks2 μ-blocks2
+loop-again c =
+    let l = c .before .before .before .before in
+    let o = l .before .before .before .before .before .before .before in
+    let s = o .before .before .args .s .now in
+    let good : upperZero (word s (o .blocks2 .b) (1 + l .loop .j * 2)) ≡ true =
+    rw (← c .before .before .get-word .ensures) (sym (c .before .upper-zero .ensures) ∙ not-false _ (c .if4 .left)) in
+    (search tests, l .loop .inv .1, sym (entries-more s (o .blocks2 .b) _ (l .loop .j) (omega arith) good) ∙ l .loop .inv .2)
+
+loop2-holds : tie.Need-loop2-holds Inv-loop μ-loop Inv-loop2 μ-loop2 Inv-blocks2 μ-blocks2
+loop2-holds c = (within (c .before .before) .words, refl)
+
+mul-get-word-3 : tie.Need-mul-get-word-3 Inv-loop μ-loop Inv-loop2 μ-loop2 Inv-blocks2 μ-blocks2
+mul-get-word-3 c = search tests
+
+add-get-word-3 : tie.Need-add-get-word-3 Inv-loop μ-loop Inv-loop2 μ-loop2 Inv-blocks2 μ-blocks2
+add-get-word-3 c = search tests
+
+get-word-requires-2 :
+    tie.Need-get-word-requires-2 Inv-loop μ-loop Inv-loop2 μ-loop2 Inv-blocks2 μ-blocks2
+get-word-requires-2 c κs = search tests
+
+add-k : tie.Need-add-k Inv-loop μ-loop Inv-loop2 μ-loop2 Inv-blocks2 μ-blocks2
+add-k c = search tests
+
+loop2-less : tie.Need-loop2-less Inv-loop μ-loop Inv-loop2 μ-loop2 Inv-blocks2 μ-blocks2
+loop2-less c = search tests
+
+loop2-again : tie.Need-loop2-again Inv-loop μ-loop Inv-loop2 μ-loop2 Inv-blocks2 μ-blocks2
+loop2-again c =
+    let l = c .before .before .before in
+    let o = l .before .before .before .before .before .before .before .before .before in
+    let s = o .before .before .args .s .now in
+    let zero : word s (o .blocks2 .b) (l .loop2 .k) ≡ 0 = sym (c .before .get-word2 .ensures) ∙ c .if5 .left in
+    (search tests, sym (zeros-more s (o .blocks2 .b) 127 (l .loop2 .k) (omega arith) zero) ∙ l .loop2 .inv .1)
+
+add-b : tie.Need-add-b Inv-loop μ-loop Inv-loop2 μ-loop2 Inv-blocks2 μ-blocks2
+add-b c = search tests
+
+blocks2-less : tie.Need-blocks2-less Inv-loop μ-loop Inv-loop2 μ-loop2 Inv-blocks2 μ-blocks2
+blocks2-less c = search tests
+
+blocks2-again : tie.Need-blocks2-again Inv-loop μ-loop Inv-loop2 μ-loop2 Inv-blocks2 μ-blocks2
+blocks2-again c =
+    let l = c .before in
+    let j = l .before .before in
+    let e = j .before in
+    let d = e .before .before .before in
+    let o = d .before .before .before in
+    let a = o .before .before .args in
+    let entries : entriesOk (a .s .now) (o .blocks2 .b) 0 (e .before .before .shape-of .result .events) ≡ true =
+    sym (j .loop .inv .2) ∙ entries-done (a .s .now) (o .blocks2 .b) _ (j .loop .j) (omega arith) in
+    let rest : zeros (a .s .now) (o .blocks2 .b) (e .before .before .shape-of .result .used) (127 - e .before .before .shape-of .result .used) ≡ true =
+    sym (l .loop2 .inv .1) ∙ zeros-done (a .s .now) (o .blocks2 .b) 127 (l .loop2 .k) (omega arith) in
+    let good : fills (a .s .now) (o .blocks2 .b) (shapeOf (a .s .now) (a .n) (o .blocks2 .b)) ≡ true =
+    rw (← e .before .before .shape-of .ensures, not-false (e .before .before .shape-of .result .ok) (e .if3 .left), entries, rest) in
+    (search tests, sym (good-block (a .s .now) (a .n) (o .blocks2 .b) (omega arith) (checked d) good) ∙ o .blocks2 .inv .1)
+
+returns : tie.Need-returns Inv-loop μ-loop Inv-loop2 μ-loop2 Inv-blocks2 μ-blocks2
+returns c =
+    let o = c .before in
+    let a = o .before .before .args in
+    sym (no-more (a .s .now) (a .n) (o .blocks2 .b) (c .if1 .taken)) ∙ o .blocks2 .inv .1
+
+returns-2 : tie.Need-returns-2 Inv-loop μ-loop Inv-loop2 μ-loop2 Inv-blocks2 μ-blocks2
+unfolding checks
+returns-2 c =
+    let o = c .before .before .before in
+    let a = o .before .before .args in
+    sym (bad-check (a .s .now) (a .n) (o .blocks2 .b) (omega arith) (ne-eqb _ _ (λ e. c .if2 .taken (c .before .sum-words .ensures ∙ e)))) ∙ o .blocks2 .inv .1
+
+returns-3 : tie.Need-returns-3 Inv-loop μ-loop Inv-loop2 μ-loop2 Inv-blocks2 μ-blocks2
+returns-3 c = named (c .before .before .before) (rw (← c .before .before .shape-of .ensures, not-true (c .before .before .shape-of .result .ok) (c .if3 .taken)))
+
+returns-4 : tie.Need-returns-4 Inv-loop μ-loop Inv-loop2 μ-loop2 Inv-blocks2 μ-blocks2
+returns-4 c =
+    let l = c .before .before .before .before in
+    let e = l .before in
+    let o = e .before .before .before .before .before .before in
+    let s = o .before .before .args .s .now in
+    let bad : upperZero (word s (o .blocks2 .b) (1 + l .loop .j * 2)) ≡ false =
+    rw (← c .before .before .get-word .ensures) (sym (c .before .upper-zero .ensures) ∙ not-true _ (c .if4 .taken)) in
+    let none : entriesOk s (o .blocks2 .b) 0 (e .before .before .shape-of .result .events) ≡ false =
+    sym (l .loop .inv .2) ∙ entries-bad s (o .blocks2 .b) _ (l .loop .j) (omega arith) bad in
+    named (e .before .before .before) (rw (← e .before .before .shape-of .ensures, not-false (e .before .before .shape-of .result .ok) (e .if3 .left), none))
+
+returns-5 : tie.Need-returns-5 Inv-loop μ-loop Inv-loop2 μ-loop2 Inv-blocks2 μ-blocks2
+returns-5 c =
+    let l = c .before .before .before in
+    let j = l .before .before in
+    let e = j .before in
+    let o = e .before .before .before .before .before .before in
+    let s = o .before .before .args .s .now in
+    let entries : entriesOk s (o .blocks2 .b) 0 (e .before .before .shape-of .result .events) ≡ true =
+    sym (j .loop .inv .2) ∙ entries-done s (o .blocks2 .b) _ (j .loop .j) (omega arith) in
+    let none : zeros s (o .blocks2 .b) (e .before .before .shape-of .result .used) (127 - e .before .before .shape-of .result .used) ≡ false =
+    sym (l .loop2 .inv .1) ∙ zeros-bad s (o .blocks2 .b) 127 (l .loop2 .k) (omega arith) (λ z. c .if5 .taken (c .before .get-word2 .ensures ∙ z)) in
+    named (e .before .before .before) (rw (← e .before .before .shape-of .ensures, not-false (e .before .before .shape-of .result .ok) (e .if3 .left), entries, none))
+
+pub first-bad-spec : {M : Type 1} → statement M
+first-bad-spec =
+    tie.close
+    (tie.spec
+    Inv-loop
+    μ-loop
+    Inv-loop2
+    μ-loop2
+    Inv-blocks2
+    μ-blocks2
+    blocks2-holds
+    cast-at
+    mul-at
+    cast-sum-words
+    sum-words-requires
+    add-if2
+    shape-of-requires
+    loop-holds
+    mul-get-word
+    add-get-word
+    mul-get-word-2
+    add-get-word-2
+    get-word-requires
+    upper-zero-requires
+    add-j
+    loop-less
+    loop-again
+    loop2-holds
+    mul-get-word-3
+    add-get-word-3
+    get-word-requires-2
+    add-k
+    loop2-less
+    loop2-again
+    add-b
+    blocks2-less
+    blocks2-again
+    returns
+    returns-2
+    returns-3
+    returns-4
+    returns-5)

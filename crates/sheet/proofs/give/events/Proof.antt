@@ -1,0 +1,117 @@
+-- `sheet::give::events` meets its contract: the events that are stored stand before what was there.
+-- Assumes nothing.
+use Prim.Native.Nat.{ℕ, _+_, _-_, _*_, _/_, _%_, _≤_, _<_}
+use mathlib.Core.Path.{_≡_, refl, sym, ap, _∙_}
+use mathlib.Core.List.{List, [], _++_}
+use native.Mathlib.Omega.{arith}
+use lib.ListN.{length, drop}
+use Rattle.sheet.specs.Words.{tab, wordAt}
+use Rattle.sheet.specs.Check.{word}
+use Rattle.sheet.specs.Reading.{entryIn}
+use Rattle.sheet.proofs.Tabs.{front-none, front-more, length-front}
+use Rattle.relay.proofs.Tests.{tests}
+use Rattle.sheet.proofs.give.events.Statement.{statement}
+use Rattle.sheet.proofs.give.events.Tie as tie
+
+abbrev Inv-loop : tie.InvT-loop
+Inv-loop s m room₀ i₀ room i = (i ≤ m) × (length room ≡ length room₀) × (room ≡ tab (entryIn s) i ++ drop i room₀)
+
+abbrev μ-loop : tie.MeasureT-loop
+μ-loop s m room₀ i₀ room i = m - i
+
+loop-holds : tie.Need-loop-holds Inv-loop μ-loop
+loop-holds c = (search tests, search tests, sym (front-none (entryIn _) _))
+
+add-at : tie.Need-add-at Inv-loop μ-loop
+add-at c = search tests
+
+mul-at : tie.Need-mul-at Inv-loop μ-loop
+mul-at c = search tests
+
+mul-at-2 : tie.Need-mul-at-2 Inv-loop μ-loop
+mul-at-2 c = search tests
+
+add-at-2 : tie.Need-add-at-2 Inv-loop μ-loop
+add-at-2 c = search tests
+
+mul-at-3 : tie.Need-mul-at-3 Inv-loop μ-loop
+mul-at-3 c = search tests
+
+add-at-3 : tie.Need-add-at-3 Inv-loop μ-loop
+add-at-3 c = search tests
+
+get-word-requires : tie.Need-get-word-requires Inv-loop μ-loop
+get-word-requires c κs = search tests
+
+add-get-word : tie.Need-add-get-word Inv-loop μ-loop
+add-get-word c = search tests
+
+get-word-requires-2 : tie.Need-get-word-requires-2 Inv-loop μ-loop
+get-word-requires-2 c κs = search tests
+
+number-in-requires : tie.Need-number-in-requires Inv-loop μ-loop
+number-in-requires c κs = search tests
+
+post-in-requires : tie.Need-post-in-requires Inv-loop μ-loop
+post-in-requires c κs = search tests
+
+answer-in-requires : tie.Need-answer-in-requires Inv-loop μ-loop
+answer-in-requires c κs = search tests
+
+mul-t15 : tie.Need-mul-t15 Inv-loop μ-loop
+mul-t15 c = search tests
+
+slice-set-from-room : tie.Need-slice-set-from-room Inv-loop μ-loop
+slice-set-from-room c = search tests
+
+add-i : tie.Need-add-i Inv-loop μ-loop
+add-i c = search tests
+
+loop-less : tie.Need-loop-less Inv-loop μ-loop
+loop-less c = search tests
+
+loop-again : tie.Need-loop-again Inv-loop μ-loop
+loop-again c =
+    let l = c .before .before .before .before .before .before in
+    let s = l .before .before .args .s .now in
+    let i = l .loop .i in
+    let next : (1 + i / 60) * 512 + (1 + i % 60 * 2) * 4 + 4 ≡ (1 + i / 60) * 512 + (2 + i % 60 * 2) * 4 = omega arith in
+    let t : c .before .before .before .get-word2 .result ≡ word s (1 + i / 60) (2 + i % 60 * 2) = c .before .before .before .get-word2 .ensures ∙ ap (wordAt s) next in (
+      search tests,
+      search tests,
+      rw (c .before .before .number-in .ensures, c .before .post-in .ensures, c .answer-in .ensures, c .before .before .before .before .get-word .ensures, t, l .loop .inv .2)
+          (front-more (entryIn s) [] i _ (omega arith)),
+    )
+
+same-length : tie.Need-same-length Inv-loop μ-loop
+same-length c = search tests
+
+returns : tie.Need-returns Inv-loop μ-loop
+returns c = let e : c .before .loop .i ≡ c .before .before .before .args .m = omega arith in rw e at (c .before .loop .inv .2)
+
+pub events-spec : {M : Type 1} → statement M
+events-spec =
+    tie.close
+    (tie.spec
+    Inv-loop
+    μ-loop
+    loop-holds
+    add-at
+    mul-at
+    mul-at-2
+    add-at-2
+    mul-at-3
+    add-at-3
+    get-word-requires
+    add-get-word
+    get-word-requires-2
+    number-in-requires
+    post-in-requires
+    answer-in-requires
+    mul-t15
+    slice-set-from-room
+    add-i
+    loop-less
+    loop-again
+    same-length
+    returns)

@@ -1,0 +1,54 @@
+-- An event as a sheet has it: its number, post, answer and stamp; and its event word.
+-- 01, 'The event sheet': 'An event word packs the event number in bits 0 to 4, post in bits 5 to 10, answer in bits 11 to 15; bits 16 to 31 are zero.'
+-- Assumes nothing.
+use Prim.Native.Nat.{ℕ, _+_, _*_, _/_, _%_}
+use mathlib.Core.Bool.{Bool, _&&_}
+use mathlib.Core.List.{List, [], _∷_}
+use lib.Dec.{ltb}
+use lib.ListN.{getD}
+
+-- the four numbers of an event, in this order
+abbrev pub entry : ℕ → ℕ → ℕ → ℕ → List ℕ
+entry number post answer stamp = number ∷ post ∷ answer ∷ stamp ∷ []
+
+abbrev pub numberOf : List ℕ → ℕ
+numberOf e = getD e 0 0
+
+abbrev pub postOf : List ℕ → ℕ
+postOf e = getD e 1 0
+
+abbrev pub answerOf : List ℕ → ℕ
+answerOf e = getD e 2 0
+
+abbrev pub stampOf : List ℕ → ℕ
+stampOf e = getD e 3 0
+
+-- 'the event number in bits 0 to 4, post in bits 5 to 10, answer in bits 11 to 15'
+unfoldable pub packed : ℕ → ℕ → ℕ → ℕ
+packed number post answer = number + post * 32 + answer * 2048
+
+-- the fields of an event word
+unfoldable pub numberIn : ℕ → ℕ
+numberIn w = w % 32
+
+unfoldable pub postIn : ℕ → ℕ
+postIn w = w / 32 % 64
+
+unfoldable pub answerIn : ℕ → ℕ
+answerIn w = w / 2048 % 32
+
+-- 'bits 16 to 31 are zero'
+unfoldable pub upperZero : ℕ → Bool
+upperZero w = ltb w 65536
+
+-- every field of an event to write is in its field; a stamp of any value is
+unfoldable pub inFields : List ℕ → Bool
+inFields e = ltb (numberOf e) 32 && (ltb (postOf e) 64 && ltb (answerOf e) 32)
+
+-- the event word of an event
+abbrev pub entryWord : List ℕ → ℕ
+entryWord e = packed (numberOf e) (postOf e) (answerOf e)
+
+-- the event of an event word and a stamp
+abbrev pub entryOf : ℕ → ℕ → List ℕ
+entryOf w t = entry (numberIn w) (postIn w) (answerIn w) t

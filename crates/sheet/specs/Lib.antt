@@ -1,0 +1,9 @@
+pub mod Layout
+pub mod Words
+pub mod Check
+pub mod Entry
+pub mod Sheet
+pub mod Puts
+pub mod Reading
+pub mod Shape
+pub mod Writing

@@ -1,0 +1,142 @@
+// The blocks of a sheet, up to the first bad one.
+ghost use mathlib.Core.Path.{_≡_};
+ghost use Prim.Native.Nat.{_+_, _*_, _≤_, _<_};
+ghost use lib.ListN.{length};
+ghost use Rattle.relay.specs.Kinds.{tableOk};
+ghost use Rattle.sheet.specs.Reading.{lengthOk, kindsIn, eventsFit, firstBad};
+ghost use Rattle.sheet.specs.Shape.{shapeOf};
+use crate::Verdict;
+use crate::entry;
+use crate::words;
+
+// What a block must hold before its words are looked at one by one: how many events, and how many words before the zeros. `ok` is false where it departs from the layout.
+pub struct Shape {
+    pub ok: bool,
+    pub events: usize,
+    pub used: usize,
+}
+
+pub fn length_ok(n: usize) -> bool
+    ensures { λ r. ⌜ r ≡ lengthOk n ⌝ }
+{
+    (n % 512 == 0) & ((512 <= n) & (n <= 32768))
+}
+
+// Whether starting would accept N and the kinds of block 0.
+pub fn table_in(s: &[u8]) -> bool
+    requires { ⌜ 512 ≤ length (now s) ⌝ }
+    ensures { λ r. ⌜ r ≡ tableOk (kindsIn (now (s .entry))) ⌝ }
+{
+    let n = words::get_word(s, 4) as usize;
+    if !line::kinds::count_fits(n) {
+        return false;
+    }
+    let mut i: usize = 0;
+    while i < n {
+        if !line::kinds::kind_fits(n, i, words::get_word(s, (3 + i) * 4)) {
+            return false;
+        }
+        i += 1;
+    }
+    true
+}
+
+// The shape of block `b` of `n`.
+pub fn shape_of(s: &[u8], n: u32, b: u32) -> Shape
+    requires { ⌜ (b < n) × (n ≤ 64) × (n * 512 ≤ length (now s)) ⌝ }
+    ensures { λ r. ⌜ r ≡ shapeOf (now (s .entry)) n b ⌝ }
+{
+    let m = words::get_word(s, b as usize * 512) as usize;
+    if b == 0 {
+        if m != 1 {
+            return Shape {
+                ok: false,
+                events: 0,
+                used: 0,
+            };
+        }
+        if !table_in(s) {
+            return Shape {
+                ok: false,
+                events: 0,
+                used: 0,
+            };
+        }
+        return Shape {
+            ok: true,
+            events: 0,
+            used: 3 + words::get_word(s, 4) as usize,
+        };
+    }
+    if !events_fit(m, b + 1 == n) {
+        return Shape {
+            ok: false,
+            events: 0,
+            used: 0,
+        };
+    }
+    Shape {
+        ok: true,
+        events: m,
+        used: 1 + m * 2,
+    }
+}
+
+// 1 to 60 events, and 60 in all but the last block.
+pub fn events_fit(m: usize, last: bool) -> bool
+    ensures { λ r. ⌜ r ≡ eventsFit m last ⌝ }
+{
+    (1 <= m) & (m <= 60) & (last | (m == 60))
+}
+
+// The first bad block of the `n` blocks of `s`, with 19 or 20; check before contents. 0 and 0 where all are good.
+pub fn first_bad(s: &[u8], n: u32) -> Verdict
+    requires { ⌜ (n ≤ 64) × (n * 512 ≤ length (now s)) ⌝ }
+    ensures { λ r. ⌜ r ≡ firstBad (now (s .entry)) n 0 n ⌝ }
+{
+    let mut b: u32 = 0;
+    'blocks: loop {
+        if n <= b {
+            break 'blocks Verdict {
+                number: 0,
+                block: 0,
+            };
+        }
+        let at = b as usize * 512;
+        if words::sum_words(s, b as usize, 128) != 317944 + b {
+            break 'blocks Verdict {
+                number: 19,
+                block: b,
+            };
+        }
+        let shape = shape_of(s, n, b);
+        if !shape.ok {
+            break 'blocks Verdict {
+                number: 20,
+                block: b,
+            };
+        }
+        let events = shape.events;
+        let mut j: usize = 0;
+        while j < events {
+            if !entry::upper_zero(words::get_word(s, at + (1 + j * 2) * 4)) {
+                break 'blocks Verdict {
+                    number: 20,
+                    block: b,
+                };
+            }
+            j += 1;
+        }
+        let mut k = shape.used;
+        while k < 127 {
+            if words::get_word(s, at + k * 4) != 0 {
+                break 'blocks Verdict {
+                    number: 20,
+                    block: b,
+                };
+            }
+            k += 1;
+        }
+        b += 1;
+    }
+}

@@ -1,0 +1,108 @@
+// The event sheet in lent bytes: tested, read into lent room, and written.
+ghost use mathlib.Core.Path.{_≡_};
+ghost use lib.ListN.{length};
+ghost use Rattle.sheet.specs.Writing.{Writes};
+ghost use Rattle.sheet.specs.Reading.{verdictOf, refused, verdict, Reads};
+
+mod blocks;
+mod entry;
+mod give;
+mod put;
+mod words;
+
+// A refusal of reading, with its block, or 0 and 0.
+pub struct Verdict {
+    pub number: u32,
+    pub block: u32,
+}
+
+// What reading returns: the number and block, and of a good sheet how many posts it has, its start stamp and how many events.
+pub struct Found {
+    pub number: u32,
+    pub block: u32,
+    pub posts: u32,
+    pub stamp: u32,
+    pub events: u32,
+}
+
+// Tests a sheet: 0 and 0, or the refusal with the first bad block.
+pub fn test(s: &[u8]) -> Verdict
+    ensures { λ r. ⌜ r ≡ verdictOf (now (s .entry)) ⌝ }
+{
+    let n = s.len();
+    if !blocks::length_ok(n) {
+        return Verdict {
+            number: 18,
+            block: 0,
+        };
+    }
+    blocks::first_bad(s, (n / 512) as u32)
+}
+
+// What a refusal of reading returns.
+pub fn refuse(number: u32, block: u32) -> Found
+    ensures { λ r. ⌜ r ≡ refused (verdict number block) ⌝ }
+{
+    Found {
+        number: number,
+        block: block,
+        posts: 0,
+        stamp: 0,
+        events: 0,
+    }
+}
+
+// Reads a sheet: its kinds to the front of `kinds` and its events, each as number, post, answer and stamp, to the front of `events`. A refusal leaves both as they were.
+pub fn read(s: &[u8], kinds: &mut [u32], events: &mut [[u32; 4]]) -> Found
+    ensures { λ r. ⌜ Reads (now (s .entry)) r (now (kinds .entry)) (now (kinds .exit)) (now (events .entry)) (now (events .exit)) ⌝ }
+{
+    let v = test(s);
+    let number = v.number;
+    if number != 0 {
+        return refuse(number, v.block);
+    }
+    let n = words::get_word(s, 4) as usize;
+    let m = give::entries_in(s);
+    if kinds.len() < n {
+        return refuse(21, 0);
+    }
+    if events.len() < m {
+        return refuse(21, 0);
+    }
+    give::kinds(s, n, kinds);
+    give::events(s, m, events);
+    Found {
+        number: 0,
+        block: 0,
+        posts: n as u32,
+        stamp: words::get_word(s, 8),
+        events: m as u32,
+    }
+}
+
+// Writes a sheet to the front of `out`: 0, or the number of the refusal, and then `out` is as it was.
+pub fn write(kinds: &[u32], stamp: u32, events: &[[u32; 4]], out: &mut [u8]) -> u32
+    ensures { λ r. ⌜ Writes (record { stamp = stamp; kinds = now (kinds .entry); events = now (events .entry) }) r (now (out .entry)) (now (out .exit)) ⌝ }
+{
+    if !line::may_start(kinds.len(), kinds) {
+        return 1;
+    }
+    if !put::all_in_fields(events) {
+        return 20;
+    }
+    let m = events.len();
+    if m > 3780 {
+        return 18;
+    }
+    let n = (m + 59) / 60;
+    if out.len() < 512 + n * 512 {
+        return 21;
+    }
+    put::head(kinds, stamp, out);
+    let mut c: usize = 0;
+    while c < n {
+        put::events(events, c, out);
+        c += 1;
+    }
+    0
+}

@@ -1,0 +1,12 @@
+// Runs the paper's sheets and damaged ones through the sheet's calls, and prints one line per case.
+// What each line must be is said beside its case, from the paper (01, 'The event sheet' and 'Proved and run examples'); the file stdout has those lines.
+mod cases;
+mod say;
+
+fn main() {
+    cases::paper();
+    cases::lengths();
+    cases::rooms();
+    cases::full();
+    cases::damaged();
+}
