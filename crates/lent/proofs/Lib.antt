@@ -5,4 +5,5 @@ pub mod Again
 pub mod Shared
 pub mod Lent
 pub mod Leave
+pub mod Prefix
 pub mod Started

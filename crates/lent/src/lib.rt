@@ -2,6 +2,9 @@
 ghost use mathlib.Core.Path.{_≡_};
 ghost use Rattle.relay.specs.Line.{startOf, eventOf, Gives};
 ghost use Rattle.relay.specs.Valid.{valid};
+
+pub mod array;
+
 use relay::Head;
 use relay::Post;
 use relay::Told;

@@ -1,0 +1,62 @@
+// Rows that are no line. 01, 'A line that may be used'; 'Numbers returned', 1: line not valid. A refused event leaves every record and the head.
+// The row is that of 32 posts in mid-session, kinds 0, 4 thirty times, 1, with four events taken: post 0 has announced (a = 1, L and RL down),
+// post 1 has An and KPg up and has announced onward (r = q = a = 1, L and RL down, W314 up). Event 6 at post 1 is taken next, as in P 12.
+// Prints `D`, the damage, the answer to that event, whether records and head are the same after it, whether the row was valid.
+use lent::array::ROOM;
+use relay::Head;
+use relay::Post;
+
+fn case(damage: &[u8], row: [Post; ROOM], n: usize, head: Head) {
+    let out = lent::array::event_on(row, n, head, 6, 1, 0);
+    let after = out.posts;
+    let told = out.told;
+    crate::say::word(b"D ");
+    crate::say::word(damage);
+    crate::say::number(told.answer);
+    crate::say::flag(crate::row::same(row, after) & crate::row::same_head(head, told.head));
+    crate::say::flag(lent::array::valid_on(row, n, head));
+    crate::say::end();
+}
+
+fn put(row: [Post; ROOM], i: usize, p: Post) -> [Post; ROOM] {
+    let mut out = row;
+    if i < ROOM {
+        out[i] = p;
+    }
+    out
+}
+
+pub fn run() {
+    let mut kinds = [relay::INTERMEDIATE; 32];
+    kinds[0] = relay::ORIGIN;
+    kinds[31] = relay::TERMINUS;
+    let base = crate::row::session(&kinds, 4);
+    let row = base.posts;
+    let told = base.told;
+    let head = told.head;
+    let p = row[0];
+    let d = row[1];
+    // 0 0 1: as it is, the row is valid and takes the event
+    case(b"none", row, 32, head);
+    // 1 1 0, as all that follow: 'All other bits are zero'
+    let mut bit = d;
+    bit.word = d.word | 256;
+    case(b"bit", put(row, 1, bit), 32, head);
+    // 'all others have 2, 3 or 4'
+    let mut kind = d;
+    kind.kind = 5;
+    case(b"kind", put(row, 1, kind), 32, head);
+    // 'h equals a - v - g': 1 is not 2
+    let mut count = p;
+    count.a = 2;
+    case(b"count", put(row, 0, count), 32, head);
+    // the same: 0 is not 1
+    let mut free = p;
+    free.word = p.word | relay::RL;
+    case(b"RL", put(row, 0, free), 32, head);
+    // '2 to 32 records': one intermediate post more, each record right
+    let long = put(put(row, 31, row[30]), 32, row[31]);
+    case(b"long", long, 33, head);
+    case(b"one", row, 1, head);
+    case(b"empty", row, 0, head);
+}
