@@ -10,11 +10,13 @@ use borrow.Author.Tests.{eq-eqb, ne-eqb, le-leb, lt-leb, leb-true, leb-false}
 use lib.Dec.{eqb, leb}
 use lib.ListN.{length, drop}
 use Rattle.relay.proofs.Truth.{split}
+use Rattle.relay.specs.Kinds.{tableOk}
 use Rattle.sheet.specs.Layout.{mostEntries, roomShort}
 use Rattle.sheet.specs.Words.{tab}
 use Rattle.sheet.specs.Check.{word}
 use Rattle.sheet.specs.Sheet.{Sheet}
 use Rattle.sheet.specs.Reading.{kindsIn, blocksIn, verdict, verdictOf, entriesIn, entryIn, decode, refused, found, roomFor, readOf, handed, Reads}
+use Rattle.sheet.specs.Writing.{bytesFor}
 use Rattle.sheet.specs.declared.Verdict.{Verdict}
 use Rattle.sheet.specs.declared.Found.{Found}
 use Rattle.sheet.proofs.Accepts.{accepted-good}
@@ -56,13 +58,34 @@ module _ (s : List ℕ) (z : verdictOf s .number ≡ 0) where
   pub entries-within : (entriesIn s + 59) / 60 * 512 + 512 ≤ length s
   entries-within = entries-by (leb n 1) refl .1
 
+  -- its events fill its blocks
+  blocks-by : (b : Bool) → leb n 1 ≡ b → bytesFor (entriesIn s) ≡ length s
+  unfolding entriesIn
+  blocks-by true e =
+      let h : n ≤ 1 = leb-true n 1 e in
+      let a = good .some in
+      let l = good .long in
+      rw e (omega arith)
+  blocks-by false e =
+      let h : 1 < n = leb-false n 1 e in
+      let f = good .few (n - 1) (omega arith) (omega arith) in
+      let m = good .many (n - 1) (omega arith) (omega arith) in
+      let l = good .long in
+      rw e (omega arith)
+
+  pub bytes-are : bytesFor (entriesIn s) ≡ length s
+  bytes-are = blocks-by (leb n 1) refl
+
+  pub table-right : tableOk (kindsIn s) ≡ true
+  table-right = good .table
+
 -- ---- what it says
 module _ (s : List ℕ) where
-  all-kinds : decode s .kinds ≡ tab (λ i. word s 0 (3 + i)) (word s 0 1)
+  pub all-kinds : decode s .kinds ≡ tab (λ i. word s 0 (3 + i)) (word s 0 1)
   unfolding decode
   all-kinds = refl
 
-  all-events : decode s .events ≡ tab (entryIn s) (entriesIn s)
+  pub all-events : decode s .events ≡ tab (entryIn s) (entriesIn s)
   unfolding decode
   all-events = refl
 
@@ -74,7 +97,7 @@ module _ (s : List ℕ) where
   unfolding decode
   events-long = length-tab (entryIn s) (entriesIn s)
 
-  stamp-is : decode s .stamp ≡ word s 0 2
+  pub stamp-is : decode s .stamp ≡ word s 0 2
   unfolding decode
   stamp-is = refl
 

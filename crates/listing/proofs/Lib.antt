@@ -1,0 +1,5 @@
+pub mod Value
+pub mod Stores
+pub mod Spaces
+pub mod Ended
+pub mod One

@@ -1,0 +1,54 @@
+-- A text stored in lent bytes from a place on: what stands before and after it stays; one byte more.
+-- Assumes nothing.
+use Prim.Native.Nat.{ℕ, zero, suc, _+_, _≤_, _<_}
+use mathlib.Core.Path.{_≡_, refl, sym, ap, _∙_}
+use mathlib.Core.List.{List, [], _∷_, _++_, append-assoc}
+use native.Mathlib.Numerals.{add-one}
+use native.Mathlib.Omega.{arith}
+use lib.ListN.{length, getD, set, take, drop, length-append, length-take, length-drop, take-append-drop}
+use lib.Seq.{drop-cons, set-at, length-take-le, take-at, drop-append-add, drop-drop}
+use Rattle.listing.specs.Texts.{stored}
+
+-- no text
+pub stored-none : (d : List ℕ) (k : ℕ) → stored d k [] ≡ d
+unfolding stored
+stored-none d k = let e : k + 0 ≡ k = omega arith in rw e (take-append-drop k d)
+
+pub length-stored : (d : List ℕ) (k : ℕ) (t : List ℕ) → k + length t ≤ length d → length (stored d k t) ≡ length d
+unfolding stored
+length-stored d k t h = simp (length-append, length-take, length-drop) (omega arith)
+
+-- one byte more
+pub stored-more : (d : List ℕ) (k : ℕ) (t : List ℕ) (b : ℕ) → k + length t < length d → set (stored d k t) (k + length t) b ≡ stored d k (t ++ (b ∷ []))
+unfolding stored
+stored-more d k t b h =
+    let p = take k d ++ t in
+    let n : length p ≡ k + length t = length-append (take k d) t ∙ rw (length-take-le k d (omega arith)) in
+    let e : k + length (t ++ (b ∷ [])) ≡ suc (k + length t) = rw length-append (omega arith) in
+    rw (e, drop-cons d (k + length t) 0 h, ← append-assoc (take k d) t)
+    (set-at p (getD d (k + length t) 0) (drop (suc (k + length t)) d) b (k + length t) n ∙ simp append-assoc)
+
+-- a text of one byte
+pub put-one : (d : List ℕ) (k b : ℕ) → k < length d → set d k b ≡ stored d k (b ∷ [])
+put-one d k b h =
+    let e : k + 0 ≡ k = omega arith in
+    sym (ap (λ (xs : List ℕ). set xs k b) (stored-none d k)) ∙ (rw e at (stored-more d k [] b (omega arith)))
+
+-- a text stored right after a text
+pub stored-then : (d : List ℕ) (k : ℕ) (t u : List ℕ) → k + length t + length u ≤ length d → stored (stored d k t) (k + length t) u ≡ stored d k (t ++ u)
+unfolding stored
+stored-then d k t u h =
+    let p = take k d ++ t in
+    let K = k + length t in
+    let r = drop K d in
+    let X = take k d ++ (t ++ r) in
+    let n : length p ≡ K = length-append (take k d) t ∙ rw (length-take-le k d (omega arith)) in
+    let e : X ≡ p ++ r = sym (append-assoc (take k d) t r) in
+    let a : take K X ≡ p = ap (λ (xs : List ℕ). take K xs) e ∙ take-at p r K n in
+    let b : drop (K + length u) X ≡ drop (K + length u) d =
+    ap (λ (xs : List ℕ). drop (K + length u) xs) e
+    ∙ ap (λ (j : ℕ). drop (j + length u) (p ++ r)) (sym n)
+    ∙ drop-append-add p r (length u)
+    ∙ drop-drop (length u) K d in
+    let m : k + length (t ++ u) ≡ K + length u = rw length-append (omega arith) in
+    rw (a, b, m) (append-assoc (take k d) t (u ++ drop (K + length u) d) ∙ ap (λ (xs : List ℕ). take k d ++ xs) (sym (append-assoc t u (drop (K + length u) d))))

@@ -1,0 +1,24 @@
+-- A number in decimal: its digits, the highest first, with no leading zero; 0 is "0".
+-- That the digits are the number's and that none leads stands in proofs/Value.antt.
+-- Assumes nothing.
+use Prim.Native.Nat.{ℕ, zero, suc, _+_, _/_, _%_}
+use mathlib.Core.List.{List, [], _∷_, _++_}
+use lib.Dec.{ltb}
+use mathlib.Core.Bool.{Bool, true, false}
+
+abbrev pub pick : {X : Type 0} → Bool → X → X → X
+pick true a b = a
+pick false a b = b
+
+-- the byte of a digit: '0' is 48
+abbrev pub digit : ℕ → ℕ
+digit d = 48 + d
+
+-- the digits of n, at most f of them
+unfoldable pub digitsIn : ℕ → ℕ → List ℕ
+digitsIn zero n = []
+digitsIn (suc f) n = pick (ltb n 10) (digit n ∷ []) (digitsIn f (n / 10) ++ (digit (n % 10) ∷ []))
+
+-- a 32-bit number has at most ten digits
+unfoldable pub digits : ℕ → List ℕ
+digits n = digitsIn 10 n

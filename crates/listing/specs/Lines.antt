@@ -1,0 +1,40 @@
+-- The lines of the listing. 01, 'The program and one listing': 'Single spaces, each line ended by a line feed.'
+-- Assumes nothing.
+use Prim.Native.Nat.{ℕ}
+use mathlib.Core.Path.{_≡_}
+use mathlib.Core.List.{List, [], _∷_, _++_}
+use lib.ListN.{length}
+use Rattle.listing.specs.Digits.{digits}
+use Rattle.listing.specs.Texts.{stored}
+
+abbrev pub space : ℕ
+space = 32
+
+abbrev pub lineFeed : ℕ
+lineFeed = 10
+
+-- numbers, each after a single space
+unfoldable pub spaced : List ℕ → List ℕ
+spaced [] = []
+spaced (n ∷ ns) = space ∷ (digits n ++ spaced ns)
+
+-- a word or a number, then numbers, then the line feed
+abbrev pub line : List ℕ → List ℕ → List ℕ
+line first ns = first ++ (spaced ns ++ (lineFeed ∷ []))
+
+-- 'one line per event: position from 1, event, post, answer'
+unfoldable pub eventLine : ℕ → ℕ → ℕ → ℕ → List ℕ
+eventLine position event post answer = line (digits position) (event ∷ post ∷ answer ∷ [])
+
+-- 'S, section, a, r, x, q, e, y, v, g, h'
+-- the section and its nine numbers, after the letter S
+unfoldable pub sectionLine : List ℕ → List ℕ
+sectionLine ns = line (83 ∷ []) ns
+
+-- '"refused", its number and the block'
+unfoldable pub refusedLine : ℕ → ℕ → List ℕ
+refusedLine number block = line (114 ∷ 101 ∷ 102 ∷ 117 ∷ 115 ∷ 101 ∷ 100 ∷ []) (number ∷ block ∷ [])
+
+-- what a call that puts a line states: r is its length, and it stands at the front of the lent bytes; what stands past it stays
+abbrev pub Lined : List ℕ → ℕ → List ℕ → List ℕ → Type 0
+Lined t r out out′ = (r ≡ length t) × (out′ ≡ stored out 0 t)

@@ -1,0 +1,6 @@
+pub mod Steps
+pub mod Begins
+pub mod Answers
+pub mod Works
+pub mod Twice
+pub mod One
