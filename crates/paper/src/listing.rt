@@ -5,22 +5,37 @@ use relay::Post;
 
 const KINDS: [u32; 2] = [0, 1];
 
-// The event and its post; the answers are the paper's own, and so is the line of the section.
+// The event and its post, and why it has the paper's answer. So S is 0, then a = r = 1, x = 0, q = e = y = 1, v = 0, g = 1, h = 0.
 const EVENTS: [[u32; 2]; 15] = [
+    // 0: L is up and the lever normal
     [1, 0],
+    // 0: the lever is reversed, so the signal closes, and at kind 0 L drops
     [4, 0],
+    // 10: RL is up, the lever reversed
     [5, 0],
+    // 0: the lever goes to normal
     [2, 0],
+    // 8: L is down
     [1, 0],
+    // 0: RL is up, the lever normal; a = 1, L and RL drop, W314 rises
     [5, 0],
+    // 0: An is down, so the strike has no effect
     [3, 1],
+    // 0: W314 drops, An rises, r = 1
     [8, 0],
+    // 12: An is up, KPg down
     [6, 1],
+    // 0: KPg rises, q = 1
     [3, 1],
+    // 0: at kind 1 the lever is normal; An and KPg drop, W241 rises, e = 1
     [6, 1],
+    // 0: W241 drops, y = 1
     [9, 0],
+    // 8: the release was lost, L is still down
     [1, 0],
+    // 0: RL is down, nothing under way, An down; L and RL rise, g = 1
     [10, 0],
+    // 0: L is up again
     [1, 0],
 ];
 

@@ -1,15 +1,13 @@
-// Words and numbers on standard output.
-
+// Lines on standard output: words, numbers after a space, a yes as 1 and a no as 0.
 pub fn word(w: &[u8]) {
     io::write_all(1, w);
 }
 
-// The first number of a line.
+// A number that begins a line.
 pub fn first(n: u32) {
     io::print_decimal(1, n as u64);
 }
 
-// Any other number, or a yes as 1 and a no as 0, after a space.
 pub fn number(n: u32) {
     io::write_all(1, b" ");
     io::print_decimal(1, n as u64);

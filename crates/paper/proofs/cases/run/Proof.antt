@@ -1,11 +1,8 @@
+-- `paper::cases::run` is safe and ends: the measure is how many cases are left.
 use borrow.Author.Needs.{needs}
 use Prim.Native.Nat.{_-_}
-use native.Mathlib.Omega.{arith}
 use Rattle.paper.proofs.cases.run.Statement.{statement}
 use Rattle.paper.proofs.cases.run.Tie as tie
-use Rattle.paper.proofs.cases.run.Reads as reads
-use Rattle.paper.proofs.cases.run.Lts as lts
-use Rattle.paper.proofs.cases.case.Reads as case-reads
 
 abbrev Inv-loop : tie.InvT-loop
 Inv-loop i₀ i = Unit {0}

@@ -1,13 +1,8 @@
+-- `paper::listing::run` is safe and ends: the measure is how many events are left.
 use borrow.Author.Needs.{needs}
 use Prim.Native.Nat.{_-_}
-use native.Mathlib.Omega.{arith}
 use Rattle.paper.proofs.listing.run.Statement.{statement}
 use Rattle.paper.proofs.listing.run.Tie as tie
-use Rattle.paper.proofs.listing.run.Reads as reads
-use Rattle.paper.proofs.listing.run.Lts as lts
-use Rattle.paper.proofs.listing.event.Reads as event-reads
-use Rattle.paper.proofs.listing.section.Reads as section-reads
-use Rattle.paper.proofs.row.session.Reads as session-reads
 
 abbrev Inv-loop : tie.InvT-loop
 Inv-loop k₀ i₀ k i = Unit {0}

