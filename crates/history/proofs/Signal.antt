@@ -1,0 +1,123 @@
+-- After any run a post's signal is open exactly when the history says so.
+-- Each case holds because only 1 raises the signal of the post named, and 2 and 4 close it.
+use Prim.Native.Nat.{ℕ, zero, suc}
+use mathlib.Core.Path.{_≡_, refl, sym, _∙_}
+use mathlib.Core.Bool.{Bool, true, false, not, _&&_, _||_, false≢true}
+use mathlib.Core.List.{List, [], _∷_}
+use borrow.Author.Tests.{eq-eqb, ne-eqb}
+use lib.Dec.{eqb}
+use Rattle.relay.specs.Examples.{Event, ev-at}
+use Rattle.relay.specs.Line.{neighbour, freshLine, startable, startOf}
+use Rattle.relay.specs.Kinds.{terminus}
+use Rattle.relay.specs.Posts.{at, freshPost, freshWord}
+use Rattle.relay.specs.Relays.{signal, up, raise}
+use Rattle.relay.specs.declared.Pair.{Pair}
+use Rattle.relay.specs.declared.Post.{Post}
+use Rattle.relay.proofs.Accepted.{event-cases}
+use Rattle.relay.proofs.Cases.{Taken, reverse, normalise, pass, pass-idle, strike-block, strike-close, strike-idle, announce, release, garage, announcement-arrives, release-arrives, announcement-lost, release-lost, restore, accepted-case}
+use Rattle.relay.proofs.Facts.{PostOk}
+use Rattle.relay.proofs.Frame.{taken-replaces}
+use Rattle.relay.proofs.Truth.{equal-or-not, split}
+use Rattle.relay.proofs.Word.{relays}
+use Rattle.history.specs.History.{Entry, entry, did, isOpen}
+use Rattle.history.specs.Run.{State, given, answer, step, run, begun}
+use Rattle.history.proofs.Agrees.{and-false}
+
+-- the signal of post i after an entry x, where it was b
+abbrev Opens : ℕ → Entry → Bool → Bool
+Opens i x b = did 1 i x || (not (did 2 i x || did 4 i x) && b)
+
+-- the post named
+signal-here : (i t : ℕ) {n k N T : ℕ} {p o : Post} {b : Pair} → eqb k i ≡ true → PostOk N k T p → Taken p o n b
+    → up signal (b .here .word) ≡ Opens i (entry (ev-at n k t) 0) (up signal (p .word))
+unfolding did
+signal-here i t f r (reverse a b) = simp (relays, f)
+signal-here i t f r (normalise a) = simp (relays, f)
+signal-here i t f r (pass a b c) = simp relays
+signal-here i t f r (pass-idle a b) = refl
+signal-here i t f r (strike-block a b) = simp (relays, f)
+signal-here i t f r (strike-close a b) = simp (relays, f)
+signal-here i t {p = p} f r (strike-idle a b) =
+    simp f (split (up signal (p .word)) (λ c. absurd (false≢true (sym b ∙ r .word .open-reversed c))) (λ c. c))
+signal-here i t f r (announce a b c) = simp relays
+signal-here i t f r (release a b c d e) = simp relays
+signal-here i t f r (garage a b c) = simp relays
+signal-here i t f r (announcement-arrives a) = simp relays
+signal-here i t f r (release-arrives a b) = simp relays
+signal-here i t f r (announcement-lost a) = simp relays
+signal-here i t f r (release-lost a b) = simp relays
+signal-here i t f r (restore a b c d) = simp relays
+
+-- its neighbour is as it was
+signal-other : {n : ℕ} {p o : Post} {b : Pair} → Taken p o n b → up signal (b .other .word) ≡ up signal (o .word)
+signal-other (reverse a b) = refl
+signal-other (normalise a) = refl
+signal-other (pass a b c) = refl
+signal-other (pass-idle a b) = refl
+signal-other (strike-block a b) = refl
+signal-other (strike-close a b) = refl
+signal-other (strike-idle a b) = refl
+signal-other (announce a b c) = refl
+signal-other (release a b c d e) = simp relays
+signal-other (garage a b c) = simp relays
+signal-other (announcement-arrives a) = simp relays
+signal-other (release-arrives a b) = refl
+signal-other (announcement-lost a) = refl
+signal-other (release-lost a b) = refl
+signal-other (restore a b c d) = refl
+
+-- an event at another post opens and closes nothing here, nor does one refused
+opens-away : (n i k t : ℕ) (b : Bool) → eqb k i ≡ false → Opens i (entry (ev-at n k t) 0) b ≡ b
+unfolding did
+opens-away n i k t b f = simp (f, and-false)
+
+opens-refused : (i : ℕ) (e : Event) (n : ℕ) (b : Bool) → eqb n 0 ≡ false → Opens i (entry e n) b ≡ b
+unfolding did
+opens-refused i e n b f = simp f
+
+-- any post, by any event
+signal-step : (e : Event) (w : State) (i : ℕ)
+    → up signal (at (given e w .line) i .word) ≡ Opens i (entry e (answer e w)) (up signal (at (w .line) i .word))
+signal-step e w i =
+    event-cases (λ a. up signal (at (a .line) i .word) ≡ Opens i (entry e (a .told .answer)) (up signal (at (w .line) i .word)))
+    (w .line) (w .head) (e .number) (e .post) (e .stamp)
+    (λ c.
+    let R = taken-replaces (w .line) (w .head) (e .number) (e .post) (e .stamp) c in
+    let T = accepted-case (w .line) (w .head) (e .number) (e .post) (e .stamp) c in
+    equal-or-not i (e .post)
+    (λ f. rw (f, R .first) (signal-here (e .post) (e .stamp) (eq-eqb (e .post) (e .post) refl) (c .valid .each (e .post) (c .place)) T))
+    (λ f.
+    let away = opens-away (e .number) i (e .post) (e .stamp) (up signal (at (w .line) i .word)) (ne-eqb (e .post) i (λ d. f (sym d))) in
+    equal-or-not i (neighbour (e .number) (e .post))
+    (λ g. rw away (rw (g, R .second) (signal-other T)))
+    (λ g. rw (away, R .rest i f g))))
+    (λ c. sym (opens-refused i e _ (up signal (at (w .line) i .word)) (ne-eqb _ 0 c)))
+
+-- after any events the signal of each post is what the history says
+pub step-says : (e : Event) (w : State) → ((i : ℕ) → up signal (at (w .line) i .word) ≡ isOpen i (w .history))
+    → (i : ℕ) → up signal (at (step e w .line) i .word) ≡ isOpen i (step e w .history)
+unfolding step isOpen
+step-says e w z i = rw (← z i) (signal-step e w i)
+
+run-says : (es : List Event) (w : State) → ((i : ℕ) → up signal (at (w .line) i .word) ≡ isOpen i (w .history))
+    → (i : ℕ) → up signal (at (run es w .line) i .word) ≡ isOpen i (run es w .history)
+unfolding run
+run-says [] w z = z
+run-says (e ∷ es) w z = run-says es (step e w) (step-says e w z)
+
+-- no signal of a fresh line is open
+fresh-shut : (ks : List ℕ) (i : ℕ) → up signal (at (freshLine ks) i .word) ≡ false
+unfolding freshLine freshPost freshWord up raise
+fresh-shut [] i = refl
+fresh-shut (k ∷ ks) zero = split (eqb k terminus) (λ e. rw e) (λ e. rw e)
+fresh-shut (k ∷ ks) (suc i) = fresh-shut ks i
+
+pub begun-says : (l : List Post) (ks : List ℕ) (t : ℕ) → startable l ks ≡ true
+    → (i : ℕ) → up signal (at (begun l ks t .line) i .word) ≡ isOpen i (begun l ks t .history)
+unfolding begun startOf isOpen
+begun-says l ks t e i = rw e (fresh-shut ks i)
+
+-- after any run from a line started from a table
+pub signal-is : (l : List Post) (ks : List ℕ) (t : ℕ) → startable l ks ≡ true → (es : List Event)
+    → (i : ℕ) → up signal (at (run es (begun l ks t) .line) i .word) ≡ isOpen i (run es (begun l ks t) .history)
+signal-is l ks t e es = run-says es (begun l ks t) (begun-says l ks t e)

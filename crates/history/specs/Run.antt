@@ -1,0 +1,41 @@
+-- A run: a fresh line, then any events, each given to the line as the one before left it; with the history that it writes.
+-- The line and head are those that the public calls' own definitions give, `startOf` and `eventOf`.
+-- Assumes nothing.
+use Prim.Native.Nat.{ℕ}
+use mathlib.Core.List.{List, [], _∷_}
+use Rattle.relay.specs.Examples.{Event}
+use Rattle.relay.specs.Line.{After, told, startOf, eventOf}
+use Rattle.relay.specs.declared.Head.{Head}
+use Rattle.relay.specs.declared.Post.{Post}
+use Rattle.history.specs.History.{Entry, entry}
+
+-- the history so far, and the line and head
+pub record State : Type 0 where
+  pub history : List Entry
+  pub line : List Post
+  pub head : Head
+
+-- what an event leaves, with the history h before it
+abbrev pub next : Event → List Entry → After → State
+next e h a = record { history = entry e (a .told .answer) ∷ h; line = a .line; head = a .told .head }
+
+-- what the line makes of an event
+abbrev pub given : Event → State → After
+given e w = eventOf (w .line) (w .head) (e .number) (e .post) (e .stamp)
+
+-- its answer
+abbrev pub answer : Event → State → ℕ
+answer e w = given e w .told .answer
+
+-- one event, taken or refused
+unfoldable pub step : Event → State → State
+step e w = next e (w .history) (given e w)
+
+-- the events of a list, one after another
+unfoldable pub run : List Event → State → State
+run [] w = w
+run (e ∷ es) w = run es (step e w)
+
+-- a line started on the row l from the table ks at the stamp t
+unfoldable pub begun : List Post → List ℕ → ℕ → State
+begun l ks t = record { history = []; line = startOf l ks t .line; head = startOf l ks t .told .head }
