@@ -2,7 +2,7 @@
 -- Each case holds because only 1 raises the signal of the post named, and 2 and 4 close it.
 use Prim.Native.Nat.{ℕ, zero, suc}
 use mathlib.Core.Path.{_≡_, refl, sym, _∙_}
-use mathlib.Core.Bool.{Bool, true, false, not, _&&_, _||_, false≢true}
+use mathlib.Core.Bool.{Bool, true, false, false≢true}
 use mathlib.Core.List.{List, [], _∷_}
 use borrow.Author.Tests.{eq-eqb, ne-eqb}
 use lib.Dec.{eqb}
@@ -19,18 +19,14 @@ use Rattle.relay.proofs.Facts.{PostOk}
 use Rattle.relay.proofs.Frame.{taken-replaces}
 use Rattle.relay.proofs.Truth.{equal-or-not, split}
 use Rattle.relay.proofs.Word.{relays}
-use Rattle.history.specs.History.{Entry, entry, did, isOpen}
+use Rattle.history.specs.History.{entry, did, opens, isOpen}
 use Rattle.history.specs.Run.{State, given, answer, step, run, begun}
 use Rattle.history.proofs.Agrees.{and-false}
 
--- the signal of post i after an entry x, where it was b
-abbrev Opens : ℕ → Entry → Bool → Bool
-Opens i x b = did 1 i x || (not (did 2 i x || did 4 i x) && b)
-
 -- the post named
 signal-here : (i t : ℕ) {n k N T : ℕ} {p o : Post} {b : Pair} → eqb k i ≡ true → PostOk N k T p → Taken p o n b
-    → up signal (b .here .word) ≡ Opens i (entry (ev-at n k t) 0) (up signal (p .word))
-unfolding did
+    → up signal (b .here .word) ≡ opens i (entry (ev-at n k t) 0) (up signal (p .word))
+unfolding opens did
 signal-here i t f r (reverse a b) = simp (relays, f)
 signal-here i t f r (normalise a) = simp (relays, f)
 signal-here i t f r (pass a b c) = simp relays
@@ -67,19 +63,19 @@ signal-other (release-lost a b) = refl
 signal-other (restore a b c d) = refl
 
 -- an event at another post opens and closes nothing here, nor does one refused
-opens-away : (n i k t : ℕ) (b : Bool) → eqb k i ≡ false → Opens i (entry (ev-at n k t) 0) b ≡ b
-unfolding did
+opens-away : (n i k t : ℕ) (b : Bool) → eqb k i ≡ false → opens i (entry (ev-at n k t) 0) b ≡ b
+unfolding opens did
 opens-away n i k t b f = simp (f, and-false)
 
-opens-refused : (i : ℕ) (e : Event) (n : ℕ) (b : Bool) → eqb n 0 ≡ false → Opens i (entry e n) b ≡ b
-unfolding did
+opens-refused : (i : ℕ) (e : Event) (n : ℕ) (b : Bool) → eqb n 0 ≡ false → opens i (entry e n) b ≡ b
+unfolding opens did
 opens-refused i e n b f = simp f
 
 -- any post, by any event
 signal-step : (e : Event) (w : State) (i : ℕ)
-    → up signal (at (given e w .line) i .word) ≡ Opens i (entry e (answer e w)) (up signal (at (w .line) i .word))
+    → up signal (at (given e w .line) i .word) ≡ opens i (entry e (answer e w)) (up signal (at (w .line) i .word))
 signal-step e w i =
-    event-cases (λ a. up signal (at (a .line) i .word) ≡ Opens i (entry e (a .told .answer)) (up signal (at (w .line) i .word)))
+    event-cases (λ a. up signal (at (a .line) i .word) ≡ opens i (entry e (a .told .answer)) (up signal (at (w .line) i .word)))
     (w .line) (w .head) (e .number) (e .post) (e .stamp)
     (λ c.
     let R = taken-replaces (w .line) (w .head) (e .number) (e .post) (e .stamp) c in

@@ -10,7 +10,9 @@ use Rattle.relay.specs.Choice.{pick}
 use Rattle.relay.specs.Kinds.{tableOk}
 use Rattle.relay.specs.Line.{After, after, head, told}
 use Rattle.relay.specs.Answers.{notValid}
+use Rattle.relay.specs.Valid.{h}
 use Rattle.relay.specs.declared.Head.{Head}
+use Rattle.relay.specs.declared.Post.{Post}
 use Rattle.row.specs.Row.{rowOf}
 use Rattle.row.specs.declared.Row.{Row}
 use Rattle.sheet.specs.Layout.{perBlock, unanswered, contentsWrong, roomShort}
@@ -80,3 +82,9 @@ workedBytes s out =
 -- what is returned and the output afterwards
 abbrev pub Works : List ℕ → Worked → List ℕ → List ℕ → Type 0
 Works s r out out′ = (r ≡ workOf s (length out)) × (out′ ≡ workedBytes s out)
+
+-- ---- the listing
+-- 'S, section, a, r, x, q, e, y, v, g, h': section s, between the posts p and d
+unfoldable pub sectionNumbers : ℕ → Post → Post → List ℕ
+sectionNumbers s p d =
+    s ∷ p .a ∷ d .r ∷ p .x ∷ d .q ∷ d .e ∷ p .y ∷ p .v ∷ p .g ∷ h (p .word) ∷ []

@@ -3,8 +3,10 @@ ghost use mathlib.Core.Path.{_≡_};
 ghost use Rattle.row.specs.Row.{rowOf};
 ghost use mathlib.Core.List.{[]};
 ghost use Rattle.relay.specs.Line.{head};
-ghost use Rattle.working.specs.Working.{ranOf, ranEvents, firstAnswered, Works};
+ghost use Rattle.relay.specs.Valid.{h};
+ghost use Rattle.working.specs.Working.{ranOf, ranEvents, firstAnswered, Works, sectionNumbers};
 use relay::Head;
+use relay::Post;
 use row::Row;
 
 // What a run returns: 0 or 1, and the row and head at the end.
@@ -112,4 +114,22 @@ pub fn work(s: &[u8], out: &mut [u8]) -> Worked
         row: row,
         head: head,
     }
+}
+
+// 1 if RL is down, else 0.
+pub fn held(word: u32) -> u32
+    ensures { λ r. ⌜ r ≡ h word ⌝ }
+{
+    if word & relay::RL == 0 {
+        return 1;
+    }
+    0
+}
+
+// The numbers of section s, between the posts p and d, in the order of its line.
+pub fn section(s: u32, p: Post, d: Post) -> [u32; 10]
+    ensures { λ r. ⌜ r ≡ sectionNumbers s p d ⌝ }
+{
+    let h = held(p.word);
+    [s, p.a, d.r, p.x, d.q, d.e, p.y, p.v, p.g, h]
 }
