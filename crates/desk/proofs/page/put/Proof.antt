@@ -1,12 +1,10 @@
+-- `desk::page::put` is safe and ends: the page keeps its length, and the measure is how many bytes of the line are left.
 use Prim.Native.Nat.{_-_}
 use mathlib.Core.Path.{_≡_}
 use lib.ListN.{length}
 use borrow.Author.Needs.{needs}
 use Rattle.desk.proofs.page.put.Statement.{statement}
 use Rattle.desk.proofs.page.put.Tie as tie
-use Rattle.desk.proofs.page.put.Reads as reads
-use Rattle.desk.proofs.page.put.Lts as lts
-use Rattle.desk.proofs.page.print.Reads as print-reads
 
 abbrev Inv-loop : tie.InvT-loop
 Inv-loop page₀ used line n to₀ i₀ page to i = length page ≡ length page₀
@@ -14,59 +12,45 @@ Inv-loop page₀ used line n to₀ i₀ page to i = length page ≡ length page�
 abbrev μ-loop : tie.MeasureT-loop
 μ-loop page₀ used line n to₀ i₀ page to i = n - i
 
--- src/page.rt:15:9
 print-requires : tie.Need-print-requires Inv-loop μ-loop
 print-requires c κs = search needs
 
--- src/page.rt:19:5
 loop-holds : tie.Need-loop-holds Inv-loop μ-loop
 loop-holds c = search needs
 
--- src/page.rt:21:13
 same-length : tie.Need-same-length Inv-loop μ-loop
 same-length c = search needs
 
--- src/page.rt:21:13
 returns : tie.Need-returns Inv-loop μ-loop
 returns c = search needs
 
--- src/page.rt:24:13
 same-length-2 : tie.Need-same-length-2 Inv-loop μ-loop
 same-length-2 c = search needs
 
--- src/page.rt:24:13
 returns-2 : tie.Need-returns-2 Inv-loop μ-loop
 returns-2 c = search needs
 
--- src/page.rt:26:20
 element-copy-out-page : tie.Need-element-copy-out-page Inv-loop μ-loop
 element-copy-out-page c = search needs
 
--- src/page.rt:26:9
 slice-write-page : tie.Need-slice-write-page Inv-loop μ-loop
 slice-write-page c = search needs
 
--- src/page.rt:27:9
 add-to : tie.Need-add-to Inv-loop μ-loop
 add-to c = search needs
 
--- src/page.rt:28:9
 add-i : tie.Need-add-i Inv-loop μ-loop
 add-i c = search needs
 
--- src/page.rt:19:5
 loop-less : tie.Need-loop-less Inv-loop μ-loop
 loop-less c = search needs
 
--- src/page.rt:19:5
 loop-again : tie.Need-loop-again Inv-loop μ-loop
 loop-again c = search needs
 
--- src/page.rt:12:1
 same-length-3 : tie.Need-same-length-3 Inv-loop μ-loop
 same-length-3 c = search needs
 
--- src/page.rt:12:1
 returns-3 : tie.Need-returns-3 Inv-loop μ-loop
 returns-3 c = search needs
 
