@@ -17,8 +17,6 @@ use Rattle.row.specs.Row.{lineOf}
 use Rattle.row.proofs.Part.{stops, goes, ended, row-decides, row-refused, row-fits}
 use Rattle.row.proofs.valid_row.Statement.{statement}
 use Rattle.row.proofs.valid_row.Tie as tie
-use Rattle.row.proofs.valid_row.Reads as reads
-use Rattle.row.proofs.valid_row.Lts as lts
 
 abbrev Inv-loop : tie.InvT-loop
 Inv-loop n taken posts i₀ j₀ i j =
