@@ -34,7 +34,7 @@ pub fn event_on(posts: [Post; ROOM], n: usize, s: Head, number: u32, place: u32,
 {
     let m = at_most(n);
     let mut line = posts;
-    let told = crate::event(&mut line[..m], s, number, place, stamp);
+    let told = crate::desk_event(&mut line[..m], s, number, place, stamp);
     let left = line;
     Kept {
         told: told,
@@ -48,7 +48,7 @@ pub fn start_on(posts: [Post; ROOM], n: usize, kinds: &[u32], stamp: u32) -> Kep
 {
     let m = at_most(n);
     let mut row = posts;
-    let told = crate::start(&mut row[..m], kinds, stamp);
+    let told = crate::desk_start(&mut row[..m], kinds, stamp);
     let left = row;
     Kept {
         told: told,
@@ -62,5 +62,5 @@ pub fn valid_on(posts: [Post; ROOM], n: usize, s: Head) -> bool
 {
     let m = at_most(n);
     let row = posts;
-    crate::valid(&row[..m], s)
+    crate::desk_valid(&row[..m], s)
 }

@@ -1,4 +1,4 @@
-// The calls on a lent row of post records. None copies the row.
+// The calls on a lent row of post records. None copies the row. C and Rust call them by these names: `include/desk.h`.
 ghost use mathlib.Core.Path.{_≡_};
 ghost use Rattle.relay.specs.Line.{startOf, eventOf, Gives};
 ghost use Rattle.relay.specs.Valid.{valid};
@@ -10,7 +10,8 @@ use relay::Post;
 use relay::Told;
 
 // Whether the line may be used: one pass over the records, left at the first that breaks a rule.
-pub fn valid(row: &[Post], s: Head) -> bool
+#[no_mangle]
+pub extern "C" fn desk_valid(row: &[Post], s: Head) -> bool
     ensures { λ r. ⌜ r ≡ valid (now (row .entry)) s ⌝ }
 {
     let n = row.len();
@@ -30,7 +31,8 @@ pub fn valid(row: &[Post], s: Head) -> bool
 }
 
 // A fresh line from a table of kinds; refused, the row is as it was and the head is of zeros.
-pub fn start(row: &mut [Post], kinds: &[u32], stamp: u32) -> Told
+#[no_mangle]
+pub extern "C" fn desk_start(row: &mut [Post], kinds: &[u32], stamp: u32) -> Told
     ensures { λ r. ⌜ Gives (startOf (now (row .entry)) (now (kinds .entry)) stamp) r (now (row .exit)) ⌝ }
 {
     let n = row.len();
@@ -46,10 +48,11 @@ pub fn start(row: &mut [Post], kinds: &[u32], stamp: u32) -> Told
 }
 
 // One event: the post or section `place`, and at most one neighbour of it, altered in place; refused, the row is as it was.
-pub fn event(row: &mut [Post], s: Head, number: u32, place: u32, stamp: u32) -> Told
+#[no_mangle]
+pub extern "C" fn desk_event(row: &mut [Post], s: Head, number: u32, place: u32, stamp: u32) -> Told
     ensures { λ r. ⌜ Gives (eventOf (now (row .entry)) s number place stamp) r (now (row .exit)) ⌝ }
 {
-    if !valid(row, s) {
+    if !desk_valid(row, s) {
         return relay::gate::refuse(relay::NOT_VALID, s);
     }
     let no = relay::gate::gate_refusal(row.len(), s, number, place, stamp);

@@ -77,6 +77,7 @@ pub const AN_UP: u32 = 17;
 pub const MOST_EVENTS: u32 = 1000000;
 
 // The record of one post: its relay word, its kind, the five counts of the section downstream and the four of the section upstream.
+#[repr(C)]
 pub struct Post {
     pub word: u32,
     pub kind: u32,
@@ -92,12 +93,14 @@ pub struct Post {
 }
 
 // The session head: events taken so far, last stamp.
+#[repr(C)]
 pub struct Head {
     pub taken: u32,
     pub last: u32,
 }
 
 // What a call returns: its number and the head.
+#[repr(C)]
 pub struct Told {
     pub answer: u32,
     pub head: Head,

@@ -7,6 +7,7 @@ use relay::Head;
 use relay::Post;
 use relay::Told;
 
+#[repr(C)]
 pub struct Row {
     pub posts: [Post; 32],
     pub n: usize,

@@ -11,12 +11,14 @@ mod put;
 mod words;
 
 // A refusal of reading, with its block, or 0 and 0.
+#[repr(C)]
 pub struct Verdict {
     pub number: u32,
     pub block: u32,
 }
 
 // What reading returns: the number and block, and of a good sheet how many posts it has, its start stamp and how many events.
+#[repr(C)]
 pub struct Found {
     pub number: u32,
     pub block: u32,

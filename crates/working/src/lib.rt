@@ -17,6 +17,7 @@ pub struct Ran {
 }
 
 // What working a sheet returns: a refusal with its block, or 0 and 0 with the row and head at the end.
+#[repr(C)]
 pub struct Worked {
     pub number: u32,
     pub block: u32,

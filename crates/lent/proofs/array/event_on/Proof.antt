@@ -57,10 +57,10 @@ use Rattle.lent.proofs.Local.{var, gets, takes}
 use Rattle.lent.proofs.Prefix as prefix
 use Rattle.lent.proofs.Prefix.{mut}
 use Rattle.lent.proofs.array.Records.{Arr, arr, vals, tells, few, Most, typed, calls-most}
-use Rattle.lent.proofs.event as event
-use Rattle.lent.proofs.event.Symbol as event-def
-use Rattle.lent.proofs.event.Symbol.{name as #lent·event}
-use Rattle.lent.proofs.event.Met as event-thm
+use Rattle.lent.proofs.desk_event as event
+use Rattle.lent.proofs.desk_event.Symbol as event-def
+use Rattle.lent.proofs.desk_event.Symbol.{name as #lent·desk-event}
+use Rattle.lent.proofs.desk_event.Met as event-thm
 use Rattle.lent.proofs.array.at_most.Symbol as most-def
 use Rattle.lent.proofs.array.at_most.Symbol.{name as #lent·array·at-most}
 use Rattle.lent.proofs.array.at_most.Met as most-thm
@@ -138,7 +138,7 @@ module _ {M : Type 1} (𝓤 : URA M) (H : Heap 𝓤) (A : Atoms 𝓤) (W : Given
         split ! $ move ! (1 ∷ []) $ heard ! (Gives after r (ws .0)) (λ e. fsplit ! $ fsplit ! $ rewrite ! 0 (λ (us : List Post). ‵ (finally T.the-row δ us)) (e .1) refl $
         move ! (3 ∷ []) $ split ! $ split ! $ rewrite ! 2 (λ (t : Told). ‵ (R.the-row .own t (v ∷ []))) (e .0) refl $ at-once ! $ keep ! (0 ∷ 3 ∷ 2 ∷ []) $ done !)))
 
-  module _ (C : Calls 𝓤 H) (Λ : Loops 𝓤 H) (fm : FmC 𝓤 H (W .laws) C) (known-event : Triple 𝓤 (C #lent·event) (Event 𝓤 H A mem run)) (known-most : Triple 𝓤 (C #lent·array·at-most) (Most 𝓤 H A mem run)) where
+  module _ (C : Calls 𝓤 H) (Λ : Loops 𝓤 H) (fm : FmC 𝓤 H (W .laws) C) (known-event : Triple 𝓤 (C #lent·desk-event) (Event 𝓤 H A mem run)) (known-most : Triple 𝓤 (C #lent·array·at-most) (Most 𝓤 H A mem run)) where
     walk : ent 𝓤 (onEntry 𝓤 H A f.signature tt tt (bound .0 .3) args) (WpFn 𝓤 H C Λ code.function (arr xs ∷ vint w64 n ∷ S′.lowered hd ∷ vint w32 number ∷ vint w32 i ∷ vint w32 stamp ∷ []) Post′)
     walk =
         qed W (‵ ftrue ∷ ‵ (owns (Arr ∷ usize ∷ S.the-row ∷ u32 ∷ u32 ∷ u32 ∷ []) (bound .0 .3) args) ∷ []) ∵ enter ! C Λ code.function (arr xs ∷ vint w64 n ∷ S′.lowered hd ∷ vint w32 number ∷ vint w32 i ∷ vint w32 stamp ∷ []) _ $
@@ -152,7 +152,7 @@ module _ {M : Type 1} (𝓤 : URA M) (H : Heap 𝓤) (A : Atoms 𝓤) (W : Given
         gets ! (agg ! (and-then ! (var ! (h 0 11) refl) (and-then ! (var ! (h 0 7) refl) (no-more !)))) (init ! (h 0 12) refl (tt, (tt, (record { fits = few n .0 }, tt)))) $
         -- the row's cell, what it owns, and true go to the head: [local 8; its records; true; the other locals, from 3 on, where local 8 has no cell]
         move ! (27 ∷ []) $ fsplit ! $ keep ! (h 2 8 ∷ 0 ∷ 28 ∷ span 8 2 ++ span 17 11) $
-        prefix.calls-lent T.the-row tt room l₈ 𝓤 H A W xs m (long xs lx n) (few n) (mut (after .line)) (length-stays ys hd number i stamp ∙ long xs lx n) (whole xs lx n (λ (l : List Post). eventOf l hd number i stamp) (λ l. length-stays l hd number i stamp)) C #lent·event fm (Event 𝓤 H A mem run) known-event (to-event l₈)
+        prefix.calls-lent T.the-row tt room l₈ 𝓤 H A W xs m (long xs lx n) (few n) (mut (after .line)) (length-stays ys hd number i stamp ∙ long xs lx n) (whole xs lx n (λ (l : List Post). eventOf l hd number i stamp) (λ l. length-stays l hd number i stamp)) C #lent·desk-event fm (Event 𝓤 H A mem run) known-event (to-event l₈)
         (prefix.s T.the-row tt room l₈ m ∷ S′.lowered hd ∷ vint w32 number ∷ vint w32 i ∷ vint w32 stamp ∷ []) (λ ν δ. refl) (‵ ftrue) (λ v. ‵ (R.the-row .own (after .told) (v ∷ []))) (goes-event l₈) (came-event l₈) !
         (and-then ! (var ! (h 1 12) refl) (and-then ! (var ! (h 0 3) refl) (and-then ! (var ! (h 0 4) refl) (and-then ! (var ! (h 0 5) refl) (and-then ! (var ! (h 0 6) refl) (no-more !)))))) (λ u w.
         -- the cell goes home: [what is told; what the array owns; the locals, from 2 on]
@@ -164,7 +164,7 @@ module _ {M : Type 1} (𝓤 : URA M) (H : Heap 𝓤) (A : Atoms 𝓤) (W : Given
         returns ! (look ! (h 0 0) refl) $ all-left ! (code.function .locals) (l₀ ∷ l₁ ∷ l₂ ∷ l₃ ∷ l₄ ∷ l₅ ∷ l₆ ∷ l₇ ∷ l₈ ∷ l₉ ∷ m₀ ∷ m₁ ∷ m₂ ∷ []) (has _ ∷ has _ ∷ has _ ∷ has _ ∷ has _ ∷ has _ ∷ has _ ∷ has _ ∷ has _ ∷ has _ ∷ has _ ∷ has _ ∷ has _ ∷ []) $
         by ! (exits w u it ip))))))))))))))))))
 
-module _ {M : Type 1} (𝓤 : URA M) (H : Heap 𝓤) (A : Atoms 𝓤) (W : Given 𝓤 H A) (mem : Memory → SProp 𝓤) (run : Routine → Fun 𝓤) (𝓣 : Tables 𝓤 H) (known-event : Triple 𝓤 (𝓣 .C #lent·event) (Event 𝓤 H A mem run)) (known-most : Triple 𝓤 (𝓣 .C #lent·array·at-most) (Most 𝓤 H A mem run)) where
+module _ {M : Type 1} (𝓤 : URA M) (H : Heap 𝓤) (A : Atoms 𝓤) (W : Given 𝓤 H A) (mem : Memory → SProp 𝓤) (run : Routine → Fun 𝓤) (𝓣 : Tables 𝓤 H) (known-event : Triple 𝓤 (𝓣 .C #lent·desk-event) (Event 𝓤 H A mem run)) (known-most : Triple 𝓤 (𝓣 .C #lent·array·at-most) (Most 𝓤 H A mem run)) where
   walks : Walks 𝓤 H A f.ended stayed (WpFn 𝓤 H (𝓣 .C) (𝓣 .Λ) code.function) (f.clauses 𝓤 H A mem run)
   walks = walked 𝓤 H A f.ended stayed (f.clauses 𝓤 H A mem run) (WpFn 𝓤 H (𝓣 .C) (𝓣 .Λ) code.function)
       (λ κs. (vals, (uint-vals w64, (LL.vals S.the-type S′.the-laws, (uint-vals w32, (uint-vals w32, (uint-vals w32, tt)))))))
@@ -183,5 +183,5 @@ event-on-spec 𝓤 H 𝓜 𝓖 𝓡 =
     entered 𝓤 H (tripleOf 𝓤 H (𝓖 .A) f.signature (f.spec 𝓤 H (𝓖 .A) (𝓜 .mem) (𝓡 .run)))
     (tables 𝓤 H 𝓜 𝓡 code.env .C) (tables 𝓤 H 𝓜 𝓡 code.env .Λ) #lent·array·event-on code.function (code.unfolded 𝓤 H 𝓜 𝓡)
     (meets 𝓤 H (𝓖 .A) (givenOf 𝓤 H 𝓜 𝓖) (𝓜 .mem) (𝓡 .run) (tablesOf 𝓤 H 𝓜 (tables 𝓤 H 𝓜 𝓡 code.env))
-    (cited 𝓤 H (Event 𝓤 H (𝓖 .A) (𝓜 .mem) (𝓡 .run)) 𝓜 𝓡 code.env #lent·event event-def.routine code.calls-lent·event (event-thm.met 𝓤 H 𝓜 𝓖 𝓡))
+    (cited 𝓤 H (Event 𝓤 H (𝓖 .A) (𝓜 .mem) (𝓡 .run)) 𝓜 𝓡 code.env #lent·desk-event event-def.routine code.calls-lent·desk-event (event-thm.met 𝓤 H 𝓜 𝓖 𝓡))
     (cited 𝓤 H (Most 𝓤 H (𝓖 .A) (𝓜 .mem) (𝓡 .run)) 𝓜 𝓡 code.env #lent·array·at-most most-def.routine code.calls-lent·array·at-most (most-thm.met 𝓤 H 𝓜 𝓖 𝓡)))

@@ -53,10 +53,10 @@ use Rattle.lent.proofs.Local.{var, gets, takes}
 use Rattle.lent.proofs.Prefix as prefix
 use Rattle.lent.proofs.Prefix.{mut}
 use Rattle.lent.proofs.array.Records.{Arr, arr, vals, tells, few, Most, typed, calls-most}
-use Rattle.lent.proofs.start as start
-use Rattle.lent.proofs.start.Symbol as start-def
-use Rattle.lent.proofs.start.Symbol.{name as #lent·start}
-use Rattle.lent.proofs.start.Met as start-thm
+use Rattle.lent.proofs.desk_start as start
+use Rattle.lent.proofs.desk_start.Symbol as start-def
+use Rattle.lent.proofs.desk_start.Symbol.{name as #lent·desk-start}
+use Rattle.lent.proofs.desk_start.Met as start-thm
 use Rattle.lent.proofs.array.at_most.Symbol as most-def
 use Rattle.lent.proofs.array.at_most.Symbol.{name as #lent·array·at-most}
 use Rattle.lent.proofs.array.at_most.Met as most-thm
@@ -142,7 +142,7 @@ module _ {M : Type 1} (𝓤 : URA M) (H : Heap 𝓤) (A : Atoms 𝓤) (W : Given
         split ! $ move ! (1 ∷ []) $ heard ! (Gives after r (ws .0)) (λ e. fsplit ! $ fsplit ! $ rewrite ! 0 (λ (us : List Post). ‵ (finally T.the-row δ us)) (e .1) refl $
         move ! (3 ∷ []) $ split ! $ split ! $ move ! (1 ∷ []) $ split ! $ rewrite ! 3 (λ (t : Told). ‵ (R.the-row .own t (v ∷ []))) (e .0) refl $ at-once ! $ keep ! (2 ∷ 4 ∷ 3 ∷ 0 ∷ []) $ done !)))
 
-  module _ (C : Calls 𝓤 H) (Λ : Loops 𝓤 H) (fm : FmC 𝓤 H (W .laws) C) (known-start : Triple 𝓤 (C #lent·start) (Start 𝓤 H A mem run)) (known-most : Triple 𝓤 (C #lent·array·at-most) (Most 𝓤 H A mem run)) where
+  module _ (C : Calls 𝓤 H) (Λ : Loops 𝓤 H) (fm : FmC 𝓤 H (W .laws) C) (known-start : Triple 𝓤 (C #lent·desk-start) (Start 𝓤 H A mem run)) (known-most : Triple 𝓤 (C #lent·array·at-most) (Most 𝓤 H A mem run)) where
     walk : ent 𝓤 (onEntry 𝓤 H A f.signature (κ, tt) (p, tt) (bound .0 .3) args) (WpFn 𝓤 H C Λ code.function (arr xs ∷ vint w64 n ∷ kv ∷ vint w32 stamp ∷ []) Post′)
     walk =
         qed W ((‵ (flft κ p) ⊛ ‵ ftrue) ∷ ‵ (owns (Arr ∷ usize ∷ ShrSlice (named 0) κ u32 ∷ u32 ∷ []) (bound .0 .3) args) ∷ []) ∵ enter ! C Λ code.function (arr xs ∷ vint w64 n ∷ kv ∷ vint w32 stamp ∷ []) _ $
@@ -158,7 +158,7 @@ module _ {M : Type 1} (𝓤 : URA M) (H : Heap 𝓤) (A : Atoms 𝓤) (W : Given
         move ! (23 ∷ []) $ fsplit ! $ move ! (1 ∷ []) $ fsplit ! $ move ! (1 ∷ []) $ fsplit ! $ move ! (26 ∷ []) $ split ! $ move ! (2 ∷ 0 ∷ []) $ join ! $
         -- [local 6; its records; the table and its token; the other locals, from 3 on, where local 6 has no cell]
         keep ! (h 5 6 ∷ 4 ∷ 0 ∷ span 8 5 ++ span 13 14) $
-        prefix.calls-lent T.the-row tt room l₆ 𝓤 H A W xs m (long xs lx n) (few n) (mut (after .line)) (length-started ys ks stamp ∙ long xs lx n) (whole xs lx n (λ (l : List Post). startOf l ks stamp) (λ l. length-started l ks stamp)) C #lent·start fm (Start 𝓤 H A mem run) known-start (to-start l₆)
+        prefix.calls-lent T.the-row tt room l₆ 𝓤 H A W xs m (long xs lx n) (few n) (mut (after .line)) (length-started ys ks stamp ∙ long xs lx n) (whole xs lx n (λ (l : List Post). startOf l ks stamp) (λ l. length-started l ks stamp)) C #lent·desk-start fm (Start 𝓤 H A mem run) known-start (to-start l₆)
         (prefix.s T.the-row tt room l₆ m ∷ kv ∷ vint w32 stamp ∷ []) (λ ν δ. refl) (‵ (ShrSlice (named 0) κ u32 .own y (kv ∷ [])) ⊛ ‵ (flft κ p)) (λ v. ‵ (R.the-row .own (after .told) (v ∷ [])) ⊛ ‵ (flft κ p)) (goes-start l₆) (came-start l₆) !
         (and-then ! (var ! (h 1 10) refl) (and-then ! (var ! (h 0 3) refl) (and-then ! (var ! (h 0 4) refl) (no-more !)))) (λ u w.
         -- the cell goes home: [what is told; the token; what the array owns; the locals, from 3 on]
@@ -170,7 +170,7 @@ module _ {M : Type 1} (𝓤 : URA M) (H : Heap 𝓤) (A : Atoms 𝓤) (W : Given
         returns ! (look ! (h 1 0) refl) $ move ! (span 22 1) $ all-left ! (code.function .locals) (l₀ ∷ l₁ ∷ l₂ ∷ l₃ ∷ l₄ ∷ l₅ ∷ l₆ ∷ l₇ ∷ l₈ ∷ l₉ ∷ m₀ ∷ []) (has _ ∷ has _ ∷ has _ ∷ has _ ∷ has _ ∷ has _ ∷ has _ ∷ has _ ∷ has _ ∷ has _ ∷ has _ ∷ []) $
         by ! (exits w u it ip))))))))))))))))
 
-module _ {M : Type 1} (𝓤 : URA M) (H : Heap 𝓤) (A : Atoms 𝓤) (W : Given 𝓤 H A) (mem : Memory → SProp 𝓤) (run : Routine → Fun 𝓤) (𝓣 : Tables 𝓤 H) (known-start : Triple 𝓤 (𝓣 .C #lent·start) (Start 𝓤 H A mem run)) (known-most : Triple 𝓤 (𝓣 .C #lent·array·at-most) (Most 𝓤 H A mem run)) where
+module _ {M : Type 1} (𝓤 : URA M) (H : Heap 𝓤) (A : Atoms 𝓤) (W : Given 𝓤 H A) (mem : Memory → SProp 𝓤) (run : Routine → Fun 𝓤) (𝓣 : Tables 𝓤 H) (known-start : Triple 𝓤 (𝓣 .C #lent·desk-start) (Start 𝓤 H A mem run)) (known-most : Triple 𝓤 (𝓣 .C #lent·array·at-most) (Most 𝓤 H A mem run)) where
   walks : Walks 𝓤 H A f.ended stayed (WpFn 𝓤 H (𝓣 .C) (𝓣 .Λ) code.function) (f.clauses 𝓤 H A mem run)
   walks = walked 𝓤 H A f.ended stayed (f.clauses 𝓤 H A mem run) (WpFn 𝓤 H (𝓣 .C) (𝓣 .Λ) code.function)
       (λ κs. (vals, (uint-vals w64, (slice-vals, (uint-vals w32, tt)))))
@@ -189,5 +189,5 @@ start-on-spec 𝓤 H 𝓜 𝓖 𝓡 =
     entered 𝓤 H (tripleOf 𝓤 H (𝓖 .A) f.signature (f.spec 𝓤 H (𝓖 .A) (𝓜 .mem) (𝓡 .run)))
     (tables 𝓤 H 𝓜 𝓡 code.env .C) (tables 𝓤 H 𝓜 𝓡 code.env .Λ) #lent·array·start-on code.function (code.unfolded 𝓤 H 𝓜 𝓡)
     (meets 𝓤 H (𝓖 .A) (givenOf 𝓤 H 𝓜 𝓖) (𝓜 .mem) (𝓡 .run) (tablesOf 𝓤 H 𝓜 (tables 𝓤 H 𝓜 𝓡 code.env))
-    (cited 𝓤 H (Start 𝓤 H (𝓖 .A) (𝓜 .mem) (𝓡 .run)) 𝓜 𝓡 code.env #lent·start start-def.routine code.calls-lent·start (start-thm.met 𝓤 H 𝓜 𝓖 𝓡))
+    (cited 𝓤 H (Start 𝓤 H (𝓖 .A) (𝓜 .mem) (𝓡 .run)) 𝓜 𝓡 code.env #lent·desk-start start-def.routine code.calls-lent·desk-start (start-thm.met 𝓤 H 𝓜 𝓖 𝓡))
     (cited 𝓤 H (Most 𝓤 H (𝓖 .A) (𝓜 .mem) (𝓡 .run)) 𝓜 𝓡 code.env #lent·array·at-most most-def.routine code.calls-lent·array·at-most (most-thm.met 𝓤 H 𝓜 𝓖 𝓡)))

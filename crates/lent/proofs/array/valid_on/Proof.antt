@@ -52,10 +52,10 @@ use Rattle.lent.proofs.Local.{var, gets, takes}
 use Rattle.lent.proofs.Prefix as prefix
 use Rattle.lent.proofs.Prefix.{shr}
 use Rattle.lent.proofs.array.Records.{Arr, arr, vals, tells, few, Most, typed, calls-most}
-use Rattle.lent.proofs.valid as valid-fn
-use Rattle.lent.proofs.valid.Symbol as valid-def
-use Rattle.lent.proofs.valid.Symbol.{name as #lent·valid}
-use Rattle.lent.proofs.valid.Met as valid-thm
+use Rattle.lent.proofs.desk_valid as valid-fn
+use Rattle.lent.proofs.desk_valid.Symbol as valid-def
+use Rattle.lent.proofs.desk_valid.Symbol.{name as #lent·desk-valid}
+use Rattle.lent.proofs.desk_valid.Met as valid-thm
 use Rattle.lent.proofs.array.at_most.Symbol as most-def
 use Rattle.lent.proofs.array.at_most.Symbol.{name as #lent·array·at-most}
 use Rattle.lent.proofs.array.at_most.Met as most-thm
@@ -122,7 +122,7 @@ module _ {M : Type 1} (𝓤 : URA M) (H : Heap 𝓤) (A : Atoms 𝓤) (W : Given
         split ! $ move ! (1 ∷ []) $ use1 W (raw (fact 𝓤 (r ≡ valid ys hd))) (exE 𝓤 _ (λ ws. snd∗ 𝓤 (sem 𝓤 H A (lasts valid-fn.ended (ν ∷ [], tt) (prefix.x T.the-row tt room l₅ δ ys, (hd, tt)) ws)) (fact 𝓤 (r ≡ valid ys hd)))) $ heard ! (r ≡ valid ys hd) (λ e.
         split ! $ split ! $ rewrite ! 2 (λ (t : Bool). ‵ (bool .own t (v ∷ []))) e refl $ at-once ! $ done !))
 
-  module _ (C : Calls 𝓤 H) (Λ : Loops 𝓤 H) (fm : FmC 𝓤 H (W .laws) C) (known-valid : Triple 𝓤 (C #lent·valid) (Valid 𝓤 H A mem run)) (known-most : Triple 𝓤 (C #lent·array·at-most) (Most 𝓤 H A mem run)) where
+  module _ (C : Calls 𝓤 H) (Λ : Loops 𝓤 H) (fm : FmC 𝓤 H (W .laws) C) (known-valid : Triple 𝓤 (C #lent·desk-valid) (Valid 𝓤 H A mem run)) (known-most : Triple 𝓤 (C #lent·array·at-most) (Most 𝓤 H A mem run)) where
     walk : ent 𝓤 (onEntry 𝓤 H A f.signature tt tt (bound .0 .3) args) (WpFn 𝓤 H C Λ code.function (arr xs ∷ vint w64 n ∷ S′.lowered hd ∷ []) Post′)
     walk =
         qed W (‵ ftrue ∷ ‵ (owns (Arr ∷ usize ∷ S.the-row ∷ []) (bound .0 .3) args) ∷ []) ∵ enter ! C Λ code.function (arr xs ∷ vint w64 n ∷ S′.lowered hd ∷ []) _ $
@@ -136,7 +136,7 @@ module _ {M : Type 1} (𝓤 : URA M) (H : Heap 𝓤) (A : Atoms 𝓤) (W : Given
         gets ! (agg ! (and-then ! (var ! (h 0 6) refl) (and-then ! (var ! (h 0 4) refl) (no-more !)))) (init ! (h 0 7) refl (tt, (tt, (record { fits = few n .0 }, tt)))) $
         -- [local 5; its records; true; the other locals, from 3 on, where local 5 has no cell]
         move ! (17 ∷ []) $ fsplit ! $ keep ! (h 2 5 ∷ 0 ∷ 18 ∷ span 4 2 ++ span 11 7) $
-        prefix.calls-lent T.the-row tt room l₅ 𝓤 H A W xs m (long xs lx n) (few n) shr (long xs lx n) (length-front xs ys m refl ∙ lx) C #lent·valid fm (Valid 𝓤 H A mem run) known-valid (to-valid l₅)
+        prefix.calls-lent T.the-row tt room l₅ 𝓤 H A W xs m (long xs lx n) (few n) shr (long xs lx n) (length-front xs ys m refl ∙ lx) C #lent·desk-valid fm (Valid 𝓤 H A mem run) known-valid (to-valid l₅)
         (prefix.s T.the-row tt room l₅ m ∷ S′.lowered hd ∷ []) (λ ν δ. refl) (‵ ftrue) (λ v. ‵ (bool .own (valid ys hd) (v ∷ []))) (goes-valid l₅) (came-valid l₅) !
         (and-then ! (var ! (h 1 7) refl) (and-then ! (var ! (h 0 3) refl) (no-more !))) (λ u w.
         -- the cell goes home: [the result; the locals, from 1 on]
@@ -145,7 +145,7 @@ module _ {M : Type 1} (𝓤 : URA M) (H : Heap 𝓤) (A : Atoms 𝓤) (W : Given
         returns ! (look ! (h 0 0) refl) $ all-left ! (code.function .locals) (l₀ ∷ l₁ ∷ l₂ ∷ l₃ ∷ l₄ ∷ l₅ ∷ l₆ ∷ l₇ ∷ []) (has _ ∷ has _ ∷ has _ ∷ has _ ∷ has _ ∷ has _ ∷ has _ ∷ has _ ∷ []) $
         by ! (exits w is))))))))))))
 
-module _ {M : Type 1} (𝓤 : URA M) (H : Heap 𝓤) (A : Atoms 𝓤) (W : Given 𝓤 H A) (mem : Memory → SProp 𝓤) (run : Routine → Fun 𝓤) (𝓣 : Tables 𝓤 H) (known-valid : Triple 𝓤 (𝓣 .C #lent·valid) (Valid 𝓤 H A mem run)) (known-most : Triple 𝓤 (𝓣 .C #lent·array·at-most) (Most 𝓤 H A mem run)) where
+module _ {M : Type 1} (𝓤 : URA M) (H : Heap 𝓤) (A : Atoms 𝓤) (W : Given 𝓤 H A) (mem : Memory → SProp 𝓤) (run : Routine → Fun 𝓤) (𝓣 : Tables 𝓤 H) (known-valid : Triple 𝓤 (𝓣 .C #lent·desk-valid) (Valid 𝓤 H A mem run)) (known-most : Triple 𝓤 (𝓣 .C #lent·array·at-most) (Most 𝓤 H A mem run)) where
   walks : Walks 𝓤 H A f.ended stayed (WpFn 𝓤 H (𝓣 .C) (𝓣 .Λ) code.function) (f.clauses 𝓤 H A mem run)
   walks = walked 𝓤 H A f.ended stayed (f.clauses 𝓤 H A mem run) (WpFn 𝓤 H (𝓣 .C) (𝓣 .Λ) code.function)
       (λ κs. (vals, (uint-vals w64, (LL.vals S.the-type S′.the-laws, tt)))) (λ κs. (tells, (uint-tells w64, (LL.tells S.the-type S′.the-laws, tt))))
@@ -163,5 +163,5 @@ valid-on-spec 𝓤 H 𝓜 𝓖 𝓡 =
     entered 𝓤 H (tripleOf 𝓤 H (𝓖 .A) f.signature (f.spec 𝓤 H (𝓖 .A) (𝓜 .mem) (𝓡 .run)))
     (tables 𝓤 H 𝓜 𝓡 code.env .C) (tables 𝓤 H 𝓜 𝓡 code.env .Λ) #lent·array·valid-on code.function (code.unfolded 𝓤 H 𝓜 𝓡)
     (meets 𝓤 H (𝓖 .A) (givenOf 𝓤 H 𝓜 𝓖) (𝓜 .mem) (𝓡 .run) (tablesOf 𝓤 H 𝓜 (tables 𝓤 H 𝓜 𝓡 code.env))
-    (cited 𝓤 H (Valid 𝓤 H (𝓖 .A) (𝓜 .mem) (𝓡 .run)) 𝓜 𝓡 code.env #lent·valid valid-def.routine code.calls-lent·valid (valid-thm.met 𝓤 H 𝓜 𝓖 𝓡))
+    (cited 𝓤 H (Valid 𝓤 H (𝓖 .A) (𝓜 .mem) (𝓡 .run)) 𝓜 𝓡 code.env #lent·desk-valid valid-def.routine code.calls-lent·desk-valid (valid-thm.met 𝓤 H 𝓜 𝓖 𝓡))
     (cited 𝓤 H (Most 𝓤 H (𝓖 .A) (𝓜 .mem) (𝓡 .run)) 𝓜 𝓡 code.env #lent·array·at-most most-def.routine code.calls-lent·array·at-most (most-thm.met 𝓤 H 𝓜 𝓖 𝓡)))

@@ -1,4 +1,4 @@
--- `lent::valid` meets its contract: a walk of its MIR, by hand, with a loop that returns from within. The slice is looked into once, before the loop, and shut on each way out. In each turn two posts are read, and a covered function tests the first of them and the section between.
+-- `lent::desk_valid` meets its contract: a walk of its MIR, by hand, with a loop that returns from within. The slice is looked into once, before the loop, and shut on each way out. In each turn two posts are read, and a covered function tests the first of them and the section between.
 -- Assumes nothing.
 use mathlib.Core.Path.{_≡_, refl, sym, ap, _∙_}
 use Prim.Native.Nat.{ℕ, _<_, _^_, _*_, _≤_, _+_, _-_}
@@ -66,11 +66,11 @@ use Rattle.line.proofs.pair_ok as pair
 use Rattle.line.proofs.pair_ok.Symbol as pair-def
 use Rattle.line.proofs.pair_ok.Symbol.{name as #line·pair-ok}
 use Rattle.line.proofs.pair_ok.Met as pair-thm
-use Rattle.lent.proofs.valid.Key.{name as #lent·valid}
-use Rattle.lent.proofs.valid as f
-use Rattle.lent.proofs.valid.Statement as stated
-use Rattle.lent.proofs.valid.Code as code
-use Rattle.lent.proofs.valid.Code.Mir as mir′
+use Rattle.lent.proofs.desk_valid.Key.{name as #lent·desk-valid}
+use Rattle.lent.proofs.desk_valid as f
+use Rattle.lent.proofs.desk_valid.Statement as stated
+use Rattle.lent.proofs.desk_valid.Code as code
+use Rattle.lent.proofs.desk_valid.Code.Mir as mir′
 
 abbrev stayed : Stays (f.ended .signature .params) (f.ended .kept)
 stayed = (stay-dropped (shrSliceOf (0 ∷ []) tt (plain (λ _. T.the-row))) yes, (stay-dropped (plain (λ _. S.the-row)) yes, tt))
@@ -234,11 +234,11 @@ module _ {M : Type 1} (𝓤 : URA M) (H : Heap 𝓤) (A : Atoms 𝓤) (W : Given
       (goes-dropped 𝓤 H A W 1 (shrSliceOf (0 ∷ []) tt (plain (λ _. T.the-row))) yes (λ κs x f. refl), (goes-dropped 𝓤 H A W 1 (plain (λ _. S.the-row)) yes (λ κs x f. refl), tt))
       (f.clauses 𝓤 H A mem run) (WpFn 𝓤 H (𝓣 .C) (𝓣 .Λ) code.function) (WpFn-mono 𝓤 H (W .laws) 𝓣 code.function) walks
 
-pub valid-spec : {M : Type 1} → stated.statement M
+pub desk-valid-spec : {M : Type 1} → stated.statement M
 unfolding code.routine tablesOf
-valid-spec 𝓤 H 𝓜 𝓖 𝓡 =
+desk-valid-spec 𝓤 H 𝓜 𝓖 𝓡 =
     entered 𝓤 H (tripleOf 𝓤 H (𝓖 .A) f.signature (f.spec 𝓤 H (𝓖 .A) (𝓜 .mem) (𝓡 .run)))
-    (tables 𝓤 H 𝓜 𝓡 code.env .C) (tables 𝓤 H 𝓜 𝓡 code.env .Λ) #lent·valid code.function (code.unfolded 𝓤 H 𝓜 𝓡)
+    (tables 𝓤 H 𝓜 𝓡 code.env .C) (tables 𝓤 H 𝓜 𝓡 code.env .Λ) #lent·desk-valid code.function (code.unfolded 𝓤 H 𝓜 𝓡)
     (meets 𝓤 H (𝓖 .A) (givenOf 𝓤 H 𝓜 𝓖) (𝓜 .mem) (𝓡 .run) (tablesOf 𝓤 H 𝓜 (tables 𝓤 H 𝓜 𝓡 code.env))
     (cited 𝓤 H (Usable 𝓤 H (𝓖 .A) (𝓜 .mem) (𝓡 .run)) 𝓜 𝓡 code.env #line·usable usable-def.routine code.calls-line·usable (usable-thm.met 𝓤 H 𝓜 𝓖 𝓡))
     (cited 𝓤 H (Pair 𝓤 H (𝓖 .A) (𝓜 .mem) (𝓡 .run)) 𝓜 𝓡 code.env #line·pair-ok pair-def.routine code.calls-line·pair-ok (pair-thm.met 𝓤 H 𝓜 𝓖 𝓡)))

@@ -1,4 +1,4 @@
--- `lent::event` meets its contract: a walk of its MIR, by hand. The row is lent to `valid` as `&`, comes back, and is then opened once; two posts are read, worked by value and stored in place. Two refusals before that.
+-- `lent::desk_event` meets its contract: a walk of its MIR, by hand. The row is lent to `valid` as `&`, comes back, and is then opened once; two posts are read, worked by value and stored in place. Two refusals before that.
 -- Assumes nothing.
 use mathlib.Core.Path.{_≡_, refl, sym, ap, subst, _∙_}
 use Prim.Native.Nat.{ℕ, _<_, _^_, _*_}
@@ -64,10 +64,10 @@ use Rattle.lent.proofs.Lent as lent
 use Rattle.lent.proofs.Local.{var, part, gets, takes}
 use Rattle.lent.proofs.Row.{place-fits, post-out, post-back, post-put}
 use Rattle.lent.proofs.Leave.{guards, calls-plain, Plain, span, home, none, has, all-left}
-use Rattle.lent.proofs.valid as valid-fn
-use Rattle.lent.proofs.valid.Symbol as valid-def
-use Rattle.lent.proofs.valid.Symbol.{name as #lent·valid}
-use Rattle.lent.proofs.valid.Met as valid-thm
+use Rattle.lent.proofs.desk_valid as valid-fn
+use Rattle.lent.proofs.desk_valid.Symbol as valid-def
+use Rattle.lent.proofs.desk_valid.Symbol.{name as #lent·desk-valid}
+use Rattle.lent.proofs.desk_valid.Met as valid-thm
 use Rattle.relay.proofs.gate.refuse as refuse
 use Rattle.relay.proofs.gate.refuse.Symbol as refuse-def
 use Rattle.relay.proofs.gate.refuse.Symbol.{name as #relay·gate·refuse}
@@ -84,10 +84,10 @@ use Rattle.relay.proofs.gate.work as work
 use Rattle.relay.proofs.gate.work.Symbol as work-def
 use Rattle.relay.proofs.gate.work.Symbol.{name as #relay·gate·work}
 use Rattle.relay.proofs.gate.work.Met as work-thm
-use Rattle.lent.proofs.event.Key.{name as #lent·event}
-use Rattle.lent.proofs.event as f
-use Rattle.lent.proofs.event.Statement as stated
-use Rattle.lent.proofs.event.Code as code
+use Rattle.lent.proofs.desk_event.Key.{name as #lent·desk-event}
+use Rattle.lent.proofs.desk_event as f
+use Rattle.lent.proofs.desk_event.Statement as stated
+use Rattle.lent.proofs.desk_event.Code as code
 
 abbrev stayed : Stays (f.ended .signature .params) (f.ended .kept)
 stayed = (stay-slice (0 ∷ []) tt (plain (λ _. T.the-row)), (stay-dropped (plain (λ _. S.the-row)) yes, (stay-dropped (plain (λ _. u32)) yes, (stay-dropped (plain (λ _. u32)) yes, (stay-dropped (plain (λ _. u32)) yes, tt)))))
@@ -209,7 +209,7 @@ module _ {M : Type 1} (𝓤 : URA M) (H : Heap 𝓤) (A : Atoms 𝓤) (W : Given
   }
 
   module _ (C : Calls 𝓤 H) (Λ : Loops 𝓤 H) (fm : FmC 𝓤 H (W .laws) C)
-      (known-valid : Triple 𝓤 (C #lent·valid) (Valid 𝓤 H A mem run)) (known-refuse : Triple 𝓤 (C #relay·gate·refuse) (Refuse 𝓤 H A mem run)) (known-gate : Triple 𝓤 (C #relay·gate·gate-refusal) (Gate 𝓤 H A mem run)) (known-near : Triple 𝓤 (C #relay·gate·neighbour-of) (Near 𝓤 H A mem run)) (known-work : Triple 𝓤 (C #relay·gate·work) (Work 𝓤 H A mem run)) where
+      (known-valid : Triple 𝓤 (C #lent·desk-valid) (Valid 𝓤 H A mem run)) (known-refuse : Triple 𝓤 (C #relay·gate·refuse) (Refuse 𝓤 H A mem run)) (known-gate : Triple 𝓤 (C #relay·gate·gate-refusal) (Gate 𝓤 H A mem run)) (known-near : Triple 𝓤 (C #relay·gate·neighbour-of) (Near 𝓤 H A mem run)) (known-work : Triple 𝓤 (C #relay·gate·work) (Work 𝓤 H A mem run)) where
     walk : ent 𝓤 (onEntry 𝓤 H A f.signature (κ, tt) (q, tt) (bound .0 .3) args) (WpFn 𝓤 H C Λ code.function (sv ∷ S′.lowered hd ∷ vint w32 number ∷ vint w32 i ∷ vint w32 stamp ∷ []) Post′)
     walk =
         qed W ((‵ (flft κ q) ⊛ ‵ ftrue) ∷ ‵ (owns (MutSlice (named 0) κ T.the-row ∷ S.the-row ∷ u32 ∷ u32 ∷ u32 ∷ []) (bound .0 .3) args) ∷ []) ∵ enter ! C Λ code.function (sv ∷ S′.lowered hd ∷ vint w32 number ∷ vint w32 i ∷ vint w32 stamp ∷ []) _ $
@@ -219,7 +219,7 @@ module _ {M : Type 1} (𝓤 : URA M) (H : Heap 𝓤) (A : Atoms 𝓤) (W : Given
         -- [what row owns; the token; the locals, from 2 on]. `valid`
         assigns ! (addr ! (from ! (fld ! refl (hop ! (look-in ! (h 2 1) (sub ! 0 refl (whole !))) (stop !))))) (from ! (stop !)) (init ! (h 2 11) refl (tt, tt)) $
         assigns ! (agg ! (and-then ! (var ! (h 2 11) refl) (and-then ! (part ! (h 2 1) 1 refl refl refl) (no-more !)))) (from ! (stop !)) (init ! (h 2 12) refl (tt, (tt, (record { fits = room .0 }, tt)))) $
-        lent.calls-shared T.the-row κ γ b o 𝓤 H A W q C #lent·valid fm (Valid 𝓤 H A mem run) known-valid to-valid (sv ∷ S′.lowered hd ∷ []) (λ ν δ. refl) ys n refl room (λ v. ‵ (bool .own (valid ys hd) (v ∷ []))) goes-valid came-valid !
+        lent.calls-shared T.the-row κ γ b o 𝓤 H A W q C #lent·desk-valid fm (Valid 𝓤 H A mem run) known-valid to-valid (sv ∷ S′.lowered hd ∷ []) (λ ν δ. refl) ys n refl room (λ v. ‵ (bool .own (valid ys hd) (v ∷ []))) goes-valid came-valid !
         (and-then ! (var ! (h 1 12) refl) (and-then ! (var ! (h 1 2) refl) (no-more !))) (λ w₁.
         peeks ! bool (Is bool) (shows 𝓤 H A bool) (valid ys hd) (w₁ ∷ []) (λ is₁. takes ! (init ! (h 3 10) refl (bool-lawful 𝓤 H A W .typed (valid ys hd) _ is₁ .0)) $
         rewrite ! (h 3 10) (λ (u : Val). ‵ (fat fullShare tyBool m₀ 0 u)) (ap only is₁) refl $ drop ! $
@@ -291,7 +291,7 @@ module _ {M : Type 1} (𝓤 : URA M) (H : Heap 𝓤) (A : Atoms 𝓤) (W : Given
         by ! (exits (r .told) _ (stored ys number i r) (fields .0) (ap (λ (u : Worked). u .told) er ∙ sym (ap (λ (u : After). u .told) is-r), ap (stored ys number i) er ∙ sym (ap (λ (u : After). u .line) is-r)) (long r)))))))))))))))))))))))))))))))))))
 
 module _ {M : Type 1} (𝓤 : URA M) (H : Heap 𝓤) (A : Atoms 𝓤) (W : Given 𝓤 H A) (mem : Memory → SProp 𝓤) (run : Routine → Fun 𝓤) (𝓣 : Tables 𝓤 H)
-    (known-valid : Triple 𝓤 (𝓣 .C #lent·valid) (Valid 𝓤 H A mem run)) (known-refuse : Triple 𝓤 (𝓣 .C #relay·gate·refuse) (Refuse 𝓤 H A mem run)) (known-gate : Triple 𝓤 (𝓣 .C #relay·gate·gate-refusal) (Gate 𝓤 H A mem run)) (known-near : Triple 𝓤 (𝓣 .C #relay·gate·neighbour-of) (Near 𝓤 H A mem run)) (known-work : Triple 𝓤 (𝓣 .C #relay·gate·work) (Work 𝓤 H A mem run)) where
+    (known-valid : Triple 𝓤 (𝓣 .C #lent·desk-valid) (Valid 𝓤 H A mem run)) (known-refuse : Triple 𝓤 (𝓣 .C #relay·gate·refuse) (Refuse 𝓤 H A mem run)) (known-gate : Triple 𝓤 (𝓣 .C #relay·gate·gate-refusal) (Gate 𝓤 H A mem run)) (known-near : Triple 𝓤 (𝓣 .C #relay·gate·neighbour-of) (Near 𝓤 H A mem run)) (known-work : Triple 𝓤 (𝓣 .C #relay·gate·work) (Work 𝓤 H A mem run)) where
   walks : Walks 𝓤 H A f.ended stayed (WpFn 𝓤 H (𝓣 .C) (𝓣 .Λ) code.function) (f.clauses 𝓤 H A mem run)
   walks = walked 𝓤 H A f.ended stayed (f.clauses 𝓤 H A mem run) (WpFn 𝓤 H (𝓣 .C) (𝓣 .Λ) code.function) (λ κs. (slice-vals, (LL.vals S.the-type S′.the-laws, (uint-vals w32, (uint-vals w32, (uint-vals w32, tt))))))
       (λ κs. (mut-slice-tells (named 0) (κs .0) T.the-row, (LL.tells S.the-type S′.the-laws, (uint-tells w32, (uint-tells w32, (uint-tells w32, tt))))))
@@ -303,13 +303,13 @@ module _ {M : Type 1} (𝓤 : URA M) (H : Heap 𝓤) (A : Atoms 𝓤) (W : Given
       (goes-slice 𝓤 H A W 1 0 tt (plain (λ _. T.the-row)), (goes-dropped 𝓤 H A W 1 (plain (λ _. S.the-row)) yes (λ κs x f. refl), (goes-dropped 𝓤 H A W 1 (plain (λ _. u32)) yes (λ κs x f. refl), (goes-dropped 𝓤 H A W 1 (plain (λ _. u32)) yes (λ κs x f. refl), (goes-dropped 𝓤 H A W 1 (plain (λ _. u32)) yes (λ κs x f. refl), tt)))))
       (f.clauses 𝓤 H A mem run) (WpFn 𝓤 H (𝓣 .C) (𝓣 .Λ) code.function) (WpFn-mono 𝓤 H (W .laws) 𝓣 code.function) walks
 
-pub event-spec : {M : Type 1} → stated.statement M
+pub desk-event-spec : {M : Type 1} → stated.statement M
 unfolding code.routine tablesOf
-event-spec 𝓤 H 𝓜 𝓖 𝓡 =
+desk-event-spec 𝓤 H 𝓜 𝓖 𝓡 =
     entered 𝓤 H (tripleOf 𝓤 H (𝓖 .A) f.signature (f.spec 𝓤 H (𝓖 .A) (𝓜 .mem) (𝓡 .run)))
-    (tables 𝓤 H 𝓜 𝓡 code.env .C) (tables 𝓤 H 𝓜 𝓡 code.env .Λ) #lent·event code.function (code.unfolded 𝓤 H 𝓜 𝓡)
+    (tables 𝓤 H 𝓜 𝓡 code.env .C) (tables 𝓤 H 𝓜 𝓡 code.env .Λ) #lent·desk-event code.function (code.unfolded 𝓤 H 𝓜 𝓡)
     (meets 𝓤 H (𝓖 .A) (givenOf 𝓤 H 𝓜 𝓖) (𝓜 .mem) (𝓡 .run) (tablesOf 𝓤 H 𝓜 (tables 𝓤 H 𝓜 𝓡 code.env))
-    (cited 𝓤 H (Valid 𝓤 H (𝓖 .A) (𝓜 .mem) (𝓡 .run)) 𝓜 𝓡 code.env #lent·valid valid-def.routine code.calls-lent·valid (valid-thm.met 𝓤 H 𝓜 𝓖 𝓡))
+    (cited 𝓤 H (Valid 𝓤 H (𝓖 .A) (𝓜 .mem) (𝓡 .run)) 𝓜 𝓡 code.env #lent·desk-valid valid-def.routine code.calls-lent·desk-valid (valid-thm.met 𝓤 H 𝓜 𝓖 𝓡))
     (cited 𝓤 H (Refuse 𝓤 H (𝓖 .A) (𝓜 .mem) (𝓡 .run)) 𝓜 𝓡 code.env #relay·gate·refuse refuse-def.routine code.calls-relay·gate·refuse (refuse-thm.met 𝓤 H 𝓜 𝓖 𝓡))
     (cited 𝓤 H (Gate 𝓤 H (𝓖 .A) (𝓜 .mem) (𝓡 .run)) 𝓜 𝓡 code.env #relay·gate·gate-refusal gate-def.routine code.calls-relay·gate·gate-refusal (gate-thm.met 𝓤 H 𝓜 𝓖 𝓡))
     (cited 𝓤 H (Near 𝓤 H (𝓖 .A) (𝓜 .mem) (𝓡 .run)) 𝓜 𝓡 code.env #relay·gate·neighbour-of near-def.routine code.calls-relay·gate·neighbour-of (near-thm.met 𝓤 H 𝓜 𝓖 𝓡))

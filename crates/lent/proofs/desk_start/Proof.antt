@@ -1,4 +1,4 @@
--- `lent::start` meets its contract: a walk of its MIR, by hand, with one refusal and a loop that stores. The table of kinds is lent to a covered function first, and then looked into; the row's borrow is opened once, before the loop, and closed at the last list.
+-- `lent::desk_start` meets its contract: a walk of its MIR, by hand, with one refusal and a loop that stores. The table of kinds is lent to a covered function first, and then looked into; the row's borrow is opened once, before the loop, and closed at the last list.
 -- Assumes nothing.
 use mathlib.Core.Path.{_≡_, refl, sym, ap, subst, _∙_}
 use Prim.Native.Nat.{ℕ, _<_, _^_, _*_, _≤_, _+_, _-_}
@@ -76,11 +76,11 @@ use Rattle.line.proofs.fresh as fresh
 use Rattle.line.proofs.fresh.Symbol as fresh-def
 use Rattle.line.proofs.fresh.Symbol.{name as #line·fresh}
 use Rattle.line.proofs.fresh.Met as fresh-thm
-use Rattle.lent.proofs.start.Key.{name as #lent·start}
-use Rattle.lent.proofs.start as f
-use Rattle.lent.proofs.start.Statement as stated
-use Rattle.lent.proofs.start.Code as code
-use Rattle.lent.proofs.start.Code.Mir as mir′
+use Rattle.lent.proofs.desk_start.Key.{name as #lent·desk-start}
+use Rattle.lent.proofs.desk_start as f
+use Rattle.lent.proofs.desk_start.Statement as stated
+use Rattle.lent.proofs.desk_start.Code as code
+use Rattle.lent.proofs.desk_start.Code.Mir as mir′
 
 abbrev stayed : Stays (f.ended .signature .params) (f.ended .kept)
 stayed = (stay-slice (0 ∷ []) tt (plain (λ _. T.the-row)), (stay-dropped (shrSliceOf (1 ∷ []) tt (plain (λ _. u32))) yes, (stay-dropped (plain (λ _. u32)) yes, tt)))
@@ -292,11 +292,11 @@ module _ {M : Type 1} (𝓤 : URA M) (H : Heap 𝓤) (A : Atoms 𝓤) (W : Given
       (goes-slice 𝓤 H A W 2 0 tt (plain (λ _. T.the-row)), (goes-dropped 𝓤 H A W 2 (shrSliceOf (1 ∷ []) tt (plain (λ _. u32))) yes (λ κs x f. refl), (goes-dropped 𝓤 H A W 2 (plain (λ _. u32)) yes (λ κs x f. refl), tt)))
       (f.clauses 𝓤 H A mem run) (WpFn 𝓤 H (𝓣 .C) (𝓣 .Λ) code.function) (WpFn-mono 𝓤 H (W .laws) 𝓣 code.function) walks
 
-pub start-spec : {M : Type 1} → stated.statement M
+pub desk-start-spec : {M : Type 1} → stated.statement M
 unfolding code.routine tablesOf
-start-spec 𝓤 H 𝓜 𝓖 𝓡 =
+desk-start-spec 𝓤 H 𝓜 𝓖 𝓡 =
     entered 𝓤 H (tripleOf 𝓤 H (𝓖 .A) f.signature (f.spec 𝓤 H (𝓖 .A) (𝓜 .mem) (𝓡 .run)))
-    (tables 𝓤 H 𝓜 𝓡 code.env .C) (tables 𝓤 H 𝓜 𝓡 code.env .Λ) #lent·start code.function (code.unfolded 𝓤 H 𝓜 𝓡)
+    (tables 𝓤 H 𝓜 𝓡 code.env .C) (tables 𝓤 H 𝓜 𝓡 code.env .Λ) #lent·desk-start code.function (code.unfolded 𝓤 H 𝓜 𝓡)
     (meets 𝓤 H (𝓖 .A) (givenOf 𝓤 H 𝓜 𝓖) (𝓜 .mem) (𝓡 .run) (tablesOf 𝓤 H 𝓜 (tables 𝓤 H 𝓜 𝓡 code.env))
     (cited 𝓤 H (May 𝓤 H (𝓖 .A) (𝓜 .mem) (𝓡 .run)) 𝓜 𝓡 code.env #line·may-start may-def.routine code.calls-line·may-start (may-thm.met 𝓤 H 𝓜 𝓖 𝓡))
     (cited 𝓤 H (Tell 𝓤 H (𝓖 .A) (𝓜 .mem) (𝓡 .run)) 𝓜 𝓡 code.env #relay·gate·tell tell-def.routine code.calls-relay·gate·tell (tell-thm.met 𝓤 H 𝓜 𝓖 𝓡))

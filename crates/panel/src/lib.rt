@@ -1,0 +1,41 @@
+// The calls on a sheet for a panel written in C or Rust, beside those of `lent` on the row: `include/desk.h` declares them.
+// Each is the call below it, under that call's own contract.
+ghost use mathlib.Core.Path.{_≡_};
+ghost use Rattle.sheet.specs.Reading.{Reads, verdictOf};
+ghost use Rattle.sheet.specs.Writing.{Writes};
+ghost use Rattle.working.specs.Working.{Works};
+use sheet::Found;
+use sheet::Verdict;
+use working::Worked;
+
+// Tests a sheet.
+#[no_mangle]
+pub extern "C" fn desk_test(s: &[u8]) -> Verdict
+    ensures { λ r. ⌜ r ≡ verdictOf (now (s .entry)) ⌝ }
+{
+    sheet::test(s)
+}
+
+// Reads a sheet into lent room.
+#[no_mangle]
+pub extern "C" fn desk_read(s: &[u8], kinds: &mut [u32], events: &mut [[u32; 4]]) -> Found
+    ensures { λ r. ⌜ Reads (now (s .entry)) r (now (kinds .entry)) (now (kinds .exit)) (now (events .entry)) (now (events .exit)) ⌝ }
+{
+    sheet::read(s, kinds, events)
+}
+
+// Writes a sheet to the front of `out`.
+#[no_mangle]
+pub extern "C" fn desk_write(kinds: &[u32], stamp: u32, events: &[[u32; 4]], out: &mut [u8]) -> u32
+    ensures { λ r. ⌜ Writes (record { stamp = stamp; kinds = now (kinds .entry); events = now (events .entry) }) r (now (out .entry)) (now (out .exit)) ⌝ }
+{
+    sheet::write(kinds, stamp, events, out)
+}
+
+// Works a sheet whole.
+#[no_mangle]
+pub extern "C" fn desk_work(s: &[u8], out: &mut [u8]) -> Worked
+    ensures { λ r. ⌜ Works (now (s .entry)) r (now (out .entry)) (now (out .exit)) ⌝ }
+{
+    working::work(s, out)
+}

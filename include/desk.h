@@ -1,0 +1,130 @@
+/*
+ * The ledger of the block desk, for a panel written in C.
+ *
+ * Each call is proved to meet its contract for every input, to touch nothing but what is lent to it, and to end.
+ * It keeps nothing between calls, allocates nothing and may be called from any thread on memory that no other
+ * thread uses meanwhile. Nothing has to be tested first: whatever the numbers and lengths are, the call answers
+ * from the paper's table.
+ *
+ * What C cannot be held to, and the calls rely on: each pointer leads to as many elements as the count behind it
+ * says, is aligned for them, and is not null even where the count is 0; what one call may write (no `const`)
+ * overlaps nothing else lent to the same call.
+ *
+ * Link liblent.a (desk_valid, desk_start, desk_event) and libpanel.a (the others); both are for x86-64 Linux.
+ */
+#ifndef DESK_H
+#define DESK_H
+
+#include <stdbool.h>
+#include <stddef.h>
+#include <stdint.h>
+
+#ifdef __cplusplus
+extern "C" {
+#endif
+
+/* A sheet is at most DESK_SHEET bytes and DESK_EVENTS events; a line has 2 to DESK_POSTS posts. */
+enum { DESK_POSTS = 32, DESK_EVENTS = 3780, DESK_BLOCK = 512, DESK_SHEET = 32768 };
+
+/* The relays, as bits of the word of a post. */
+enum {
+    DESK_AN = 1, DESK_KPG = 2, DESK_L = 4, DESK_RL = 8,
+    DESK_LEVER = 16, DESK_SIGNAL = 32, DESK_W314 = 64, DESK_W241 = 128
+};
+
+/*
+ * The record of a post: its relays, its kind (0 origin, 1 terminus, 2 station that blocks at the signal pedal,
+ * 3 station that blocks at the announcement, 4 intermediate post), and nine counts. Of the section downstream:
+ * announcements sent a, announcements lost x, releases lost y, releases received v, restorations g. Of the section
+ * upstream: announcements received r, passages recorded q, releases sent e, of which garage releases c.
+ */
+struct desk_post {
+    uint32_t word, kind;
+    uint32_t a, x, y, v, g;
+    uint32_t r, q, e, c;
+};
+
+/* The session head: events taken so far, last stamp. */
+struct desk_head {
+    uint32_t taken, last;
+};
+
+/* An answer (0 to 17) and the head after it. */
+struct desk_told {
+    uint32_t answer;
+    struct desk_head head;
+};
+
+/* A sheet's refusal (18 to 20) and the block that it names, or 0 and 0. */
+struct desk_verdict {
+    uint32_t number, block;
+};
+
+/* What reading returns: number and block, and of a good sheet its posts, start stamp and events (else zeros). */
+struct desk_found {
+    uint32_t number, block, posts, stamp, events;
+};
+
+/* The first n records are the line; the records past them are of zeros. */
+struct desk_row {
+    struct desk_post posts[DESK_POSTS];
+    size_t n;
+};
+
+/* What working returns: number and block, and of a worked sheet the line and the head at its end (else n is 0). */
+struct desk_worked {
+    uint32_t number, block;
+    struct desk_row row;
+    struct desk_head head;
+};
+
+/* An event of a sheet: its number, its post or section, its answer (31: not yet answered), its stamp. */
+typedef uint32_t desk_entry[4];
+
+/* Whether the n records may be used as a line with this head ('A line that may be used'). Writes nothing. */
+bool desk_valid(const struct desk_post *row, size_t n, struct desk_head head);
+
+/*
+ * A fresh line from a table of kinds. 0: the n records are the fresh line, and the head has 0 events and this stamp.
+ * 1: the table is wrong, n is not 2 to 32, or n and k differ; then the row is as it was and the head is of zeros.
+ */
+struct desk_told desk_start(struct desk_post *row, size_t n, const uint32_t *kinds, size_t k, uint32_t stamp);
+
+/*
+ * One event at a post (for events 8, 9, 10: at a section). 0: taken; the post and at most one neighbour are altered
+ * by the rule of the event, and the head has one event more and this stamp. Any other answer, 1 to 17 in the paper's
+ * order: every record and the head are as they were.
+ */
+struct desk_told desk_event(struct desk_post *row, size_t n, struct desk_head head, uint32_t number, uint32_t place,
+                            uint32_t stamp);
+
+/* Tests a sheet: 0 and 0, or 18, or 19 or 20 with the first bad block. Writes nothing. */
+struct desk_verdict desk_test(const uint8_t *sheet, size_t n);
+
+/*
+ * Reads a sheet: its kinds to the front of `kinds`, its events to the front of `events`; what lies past them stays.
+ * 18, 19 and 20 as desk_test; 21 where either room is too short. A refusal leaves both rooms as they were.
+ */
+struct desk_found desk_read(const uint8_t *sheet, size_t n, uint32_t *kinds, size_t k, desk_entry *events, size_t m);
+
+/*
+ * Writes a sheet to the front of `out`: 512 bytes, and 512 for each 60 events or part of 60; the bytes past it stay.
+ * 1: wrong table; 20: an event out of its field; 18: more than 3,780 events; 21: out is too short; then out is as
+ * it was.
+ */
+uint32_t desk_write(const uint32_t *kinds, size_t k, uint32_t stamp, const desk_entry *events, size_t m, uint8_t *out,
+                    size_t n);
+
+/*
+ * Works a sheet: takes its events one after the other from the fresh line of its table, and writes the same sheet
+ * with the answers filled in and the checks renewed to the front of `out`; the bytes past it stay. 18, 19 and 20 as
+ * desk_test; 20 with its block at the first event that is answered already; 21 where out is shorter than the sheet.
+ * A refusal leaves out as it was.
+ */
+struct desk_worked desk_work(const uint8_t *sheet, size_t n, uint8_t *out, size_t room);
+
+#ifdef __cplusplus
+}
+#endif
+
+#endif
