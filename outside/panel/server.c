@@ -14,11 +14,13 @@
  *
  * Everything lent ends where memory ends: the page behind it may not be touched. The bytes before it are a canary.
  * What is lent to be read only is compared with what it was.
+ * With the word --guards it answers nothing, and tests that such a touch is noticed.
  */
 #include <stdio.h>
 #include <stdlib.h>
 #include <string.h>
 #include <sys/mman.h>
+#include <sys/wait.h>
 #include <unistd.h>
 
 #include "desk.h"
@@ -369,7 +371,40 @@ static void run(void)
     }
 }
 
-int main(void)
+/* ---- the guards themselves */
+
+static void touch_behind(void) { *(volatile uint8_t *)(row_area.at + row_area.bytes) = 0; }
+static void look_behind(void) { (void)*(volatile uint8_t *)(row_area.at + row_area.bytes); }
+static void touch_before(void) { row_area.at[-1] = 0; canary(&row_area); }
+static void touch_lent(void) { row_area.at[0] ^= 1; same(&row_area); }
+
+/* Whether a process that does this is killed, or ends by fail(). */
+static bool noticed(void (*does)(void))
+{
+    int status;
+    pid_t child = fork();
+
+    if (child == 0) {
+        if (freopen("/dev/null", "w", stderr) == NULL)
+            _exit(0);
+        does();
+        _exit(0);
+    }
+    if (child < 0 || waitpid(child, &status, 0) != child)
+        fail("no process");
+    return !WIFEXITED(status) || WEXITSTATUS(status) == 3;
+}
+
+static int guards(void)
+{
+    lend(&row_area, 88);
+    keep(&row_area);
+    if (noticed(flush) || !noticed(touch_behind) || !noticed(look_behind) || !noticed(touch_before) || !noticed(touch_lent))
+        fail("a guard does not hold");
+    return 0;
+}
+
+int main(int words, char **word_at)
 {
     static void (*const calls[])(void) = {start, valid, event, read_sheet, write_sheet, work, run};
 
@@ -378,6 +413,8 @@ int main(void)
     make(&entries_area);
     make(&sheet_area);
     make(&out_area);
+    if (words == 2 && strcmp(word_at[1], "--guards") == 0)
+        return guards();
     while (more()) {
         uint32_t call = word();
 

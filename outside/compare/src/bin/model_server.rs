@@ -1,0 +1,139 @@
+//! The model behind the wire that a library's server has: what the tests of the
+//! wire talk to, and a pattern for such a server. With --desk it is the working
+//! program.
+
+use std::io::{self, BufRead, BufReader, Read, Write};
+
+use compare::desk::{reply, Model};
+use compare::request::{post_of, Request, POST_WORDS};
+use model::{Head, Post};
+
+struct Wire<R>(R);
+
+impl<R: Read> Wire<R> {
+    fn bytes(&mut self, count: usize) -> io::Result<Vec<u8>> {
+        let mut bytes = vec![0; count.next_multiple_of(4)];
+        self.0.read_exact(&mut bytes)?;
+        bytes.truncate(count);
+        Ok(bytes)
+    }
+
+    fn words(&mut self, count: usize) -> io::Result<Vec<u32>> {
+        let bytes = self.bytes(4 * count)?;
+        let word = |four: &[u8]| u32::from_le_bytes([four[0], four[1], four[2], four[3]]);
+        Ok(bytes.chunks(4).map(word).collect())
+    }
+
+    fn few<const K: usize>(&mut self) -> io::Result<[u32; K]> {
+        let words = self.words(K)?;
+        words
+            .try_into()
+            .map_err(|_| io::ErrorKind::InvalidData.into())
+    }
+
+    fn many<const K: usize>(&mut self, count: u32) -> io::Result<Vec<[u32; K]>> {
+        (0..count).map(|_| self.few()).collect()
+    }
+
+    fn row(&mut self, count: u32) -> io::Result<Vec<Post>> {
+        let records: Vec<[u32; POST_WORDS]> = self.many(count)?;
+        Ok(records.iter().map(post_of).collect())
+    }
+
+    fn request(&mut self) -> io::Result<Request> {
+        match self.few()? {
+            [1] => {
+                let [rows, kinds, stamp] = self.few()?;
+                let row = self.row(rows)?;
+                let kinds = self.words(kinds as usize)?;
+                Ok(Request::Start { row, kinds, stamp })
+            }
+            [2] => {
+                let [rows, taken, last] = self.few()?;
+                let row = self.row(rows)?;
+                let head = Head { taken, last };
+                Ok(Request::Valid { row, head })
+            }
+            [3] => {
+                let [rows, taken, last] = self.few()?;
+                let (step, row) = (self.few()?, self.row(rows)?);
+                let head = Head { taken, last };
+                Ok(Request::Event { row, head, step })
+            }
+            [7] => {
+                let [posts, stamp, count] = self.few()?;
+                let kinds = self.words(posts as usize)?;
+                let steps = self.many(count)?;
+                Ok(Request::Run {
+                    kinds,
+                    stamp,
+                    steps,
+                })
+            }
+            [code] => self.sheet_request(code),
+        }
+    }
+
+    fn sheet_request(&mut self, code: u32) -> io::Result<Request> {
+        match code {
+            4 => {
+                let [bytes, kinds_room, events_room, fill] = self.few()?;
+                Ok(Request::Read {
+                    sheet: self.bytes(bytes as usize)?,
+                    kinds_room: kinds_room as usize,
+                    events_room: events_room as usize,
+                    fill,
+                })
+            }
+            5 => {
+                let [kinds, stamp, events, out_len, fill] = self.few()?;
+                Ok(Request::Write {
+                    kinds: self.words(kinds as usize)?,
+                    stamp,
+                    events: self.many(events)?,
+                    out_len: out_len as usize,
+                    fill: fill as u8,
+                })
+            }
+            6 => {
+                let [bytes, out_len, fill] = self.few()?;
+                Ok(Request::Work {
+                    sheet: self.bytes(bytes as usize)?,
+                    out_len: out_len as usize,
+                    fill: fill as u8,
+                })
+            }
+            _ => Err(io::ErrorKind::InvalidData.into()),
+        }
+    }
+}
+
+fn main() -> io::Result<()> {
+    if std::env::args().any(|argument| argument == "--desk") {
+        let mut sheet = Vec::new();
+        io::stdin().lock().read_to_end(&mut sheet)?;
+        return io::stdout().write_all(model::listing(&sheet).as_bytes());
+    }
+    serve()
+}
+
+fn serve() -> io::Result<()> {
+    let mut wire = Wire(BufReader::with_capacity(1 << 16, io::stdin().lock()));
+    let mut out = io::stdout().lock();
+    let mut ready = Vec::new();
+    loop {
+        // What is ready goes out whenever the input runs dry.
+        if wire.0.buffer().is_empty() || ready.len() > 1 << 18 {
+            out.write_all(&ready)?;
+            out.flush()?;
+            ready.clear();
+        }
+        if wire.0.fill_buf()?.is_empty() {
+            return Ok(());
+        }
+        let request = wire.request()?;
+        for word in reply(&mut Model, &request) {
+            ready.extend_from_slice(&word.to_le_bytes());
+        }
+    }
+}

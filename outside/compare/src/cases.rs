@@ -1,0 +1,141 @@
+//! The sorts of cases, and the plan of a whole run.
+
+use crate::desk::{reply, Model};
+use crate::random::Random;
+use crate::request::{Reply, Request};
+use crate::{full, histories, rooms, rows, starts, writes};
+
+/// A variety of a sort: its name and its maker.
+pub type Variety = (&'static str, fn(&mut Random) -> Request);
+
+/// A sort of cases. Its varieties take turns, so that each has its share.
+pub struct Sort {
+    pub name: &'static str,
+    pub varieties: Vec<&'static str>,
+    make: Maker,
+}
+
+enum Maker {
+    Each(&'static [Variety]),
+    Numbered(fn(&mut Random, usize) -> Request),
+}
+
+/// One call, or one history of calls, and what the model replies.
+pub struct Case {
+    pub sort: usize,
+    pub index: u64,
+    pub variety: usize,
+    pub request: Request,
+    pub expected: Reply,
+}
+
+impl Case {
+    /// How much it counts towards its sort's share: a history by its events.
+    pub fn weight(&self) -> u64 {
+        match &self.request {
+            Request::Run { steps, .. } => steps.len() as u64,
+            _ => 1,
+        }
+    }
+}
+
+/// How many of each are wanted.
+#[derive(Clone, Copy, Debug)]
+pub struct Wanted {
+    pub events: u64,
+    pub rows: u64,
+    pub sheets: u64,
+}
+
+pub const ALTERED_ROWS: &str = "altered-rows";
+
+/// All sorts, in the order in which they take turns.
+pub fn sorts() -> Vec<Sort> {
+    let each = |name, varieties: &'static [Variety]| Sort {
+        name,
+        varieties: varieties.iter().map(|variety| variety.0).collect(),
+        make: Maker::Each(varieties),
+    };
+    vec![
+        each("lively-histories", histories::LIVELY),
+        each("wild-histories", histories::WILD),
+        each("turn-histories", histories::TURN),
+        each(ALTERED_ROWS, rows::ALTERED),
+        each("heads", rows::HEADS),
+        each("starts", starts::STARTS),
+        Sort {
+            name: "reading",
+            varieties: rooms::reading_names(),
+            make: Maker::Numbered(rooms::reading),
+        },
+        Sort {
+            name: "working",
+            varieties: rooms::working_names(),
+            make: Maker::Numbered(rooms::working),
+        },
+        each("writing", writes::WRITES),
+        each("full-sheets", full::FULL),
+    ]
+}
+
+/// Each sort's share, in the order of `sorts`.
+fn shares(wanted: Wanted) -> [u64; 10] {
+    let Wanted {
+        events,
+        rows,
+        sheets,
+    } = wanted;
+    [
+        events * 6 / 10,
+        events * 2 / 10,
+        events.div_ceil(5),
+        rows,
+        rows / 10,
+        rows / 10,
+        sheets / 2,
+        sheets.div_ceil(2),
+        sheets / 4,
+        sheets / 200,
+    ]
+}
+
+/// The case of this sort and index, from the seed alone.
+pub fn case(sorts: &[Sort], seed: u64, sort: usize, index: u64) -> Case {
+    let chosen = &sorts[sort];
+    let variety = (index % chosen.varieties.len() as u64) as usize;
+    let mut random = Random::of_case(seed, sort as u64, index);
+    let request = match chosen.make {
+        Maker::Each(varieties) => varieties[variety].1(&mut random),
+        Maker::Numbered(make) => make(&mut random, variety),
+    };
+    let expected = reply(&mut Model, &request);
+    Case {
+        sort,
+        index,
+        variety,
+        request,
+        expected,
+    }
+}
+
+/// How often all sorts take turns, so that a fault in any is found early.
+const TURNS: u64 = 50;
+
+/// Gives every case of a run to `sink`, until it says that it wants no more.
+pub fn each_case(sorts: &[Sort], seed: u64, wanted: Wanted, sink: &mut dyn FnMut(Case) -> bool) {
+    let shares = shares(wanted);
+    let mut next_index = vec![0; sorts.len()];
+    let mut done = vec![0; sorts.len()];
+    for turn in 1..=TURNS {
+        for sort in 0..sorts.len() {
+            while done[sort] < shares[sort] * turn / TURNS {
+                let case = case(sorts, seed, sort, next_index[sort]);
+                next_index[sort] += 1;
+                done[sort] += case.weight();
+                if !sink(case) {
+                    return;
+                }
+            }
+        }
+    }
+}

@@ -1,0 +1,342 @@
+//! The kinds of sheets to read and to work: good, answered, damaged.
+
+use model::{BLOCK_BYTES, CHECK};
+
+use crate::histories::{some_posts, table};
+use crate::random::Random;
+use crate::request::padded;
+use crate::sheets::{blocks, get, lively_sheet, put, renew, renewed, some, Sheet};
+
+/// A kind of sheet: its name and its maker.
+pub type Kind = (&'static str, fn(&mut Random) -> Vec<u8>);
+
+pub const KINDS: &[Kind] = &[
+    ("good, unanswered", |random| some(random, 0).bytes()),
+    ("good, any fields", |random| any_fields(random).bytes()),
+    ("worked", worked),
+    ("partly answered", partly_answered),
+    ("any answers", any_answers),
+    ("fewer blocks", fewer_blocks),
+    ("cut", cut),
+    ("lengthened by zeros", lengthened_by_zeros),
+    ("lengthened by an empty block", lengthened_by_empty),
+    ("lengthened by some bytes", lengthened_by_bytes),
+    ("one bit flipped", bit_flipped),
+    ("moved between words", moved_between_words),
+    ("two blocks swapped", blocks_swapped),
+    ("word 0 of the table", |random| table_word(random, 0)),
+    ("N wrong", |random| table_word(random, 1)),
+    ("N of 33 and more", table_too_long),
+    ("a kind wrong", kind_wrong),
+    ("filler of the table", table_filler),
+    ("m of 0", |random| {
+        one_block(random, 1, |random, b| set_m(random, b, &[0]))
+    }),
+    ("m of 61 and more", |random| {
+        let wrong = [61, 61, 62, 63, 64, 127, 128, 1 << 31, u32::MAX];
+        let least = random.pick(&[1, 60]);
+        let mut bytes = some(random, least).bytes();
+        let at = later_block(random, &bytes);
+        put(&mut bytes, at, 0, random.pick(&wrong));
+        renewed(bytes, at)
+    }),
+    ("m below 60 in the middle", middle_short),
+    ("upper bits of an event", |random| {
+        one_block(random, 1, upper_bits)
+    }),
+    ("filler of a later block", |random| {
+        one_block(random, 1, later_filler)
+    }),
+    ("any words, right check", |random| {
+        one_block(random, 0, any_words)
+    }),
+    ("wrong check", wrong_check),
+    ("check without the block", check_without_block),
+    ("check and contents wrong", |random| {
+        let mut bytes = some(random, 0).bytes();
+        let at = random.below(blocks(&bytes));
+        break_contents(random, &mut bytes, at);
+        bytes
+    }),
+    ("several bad blocks", several_bad),
+    ("any bytes of some length", any_bytes),
+];
+
+/// "Event numbers, posts, stamps and answers of any value that fits its field may
+/// stand in a sheet."
+fn any_fields(random: &mut Random) -> Sheet {
+    let mut sheet = some(random, 0);
+    for [number, post, _, stamp] in &mut sheet.events {
+        if random.chance(40) {
+            *number = random.small(0, 31);
+            *post = random.small(0, 63);
+            *stamp = random.edge_word();
+        }
+    }
+    sheet
+}
+
+fn worked(random: &mut Random) -> Vec<u8> {
+    let bytes = some(random, 0).bytes();
+    let mut out = vec![0; bytes.len()];
+    model::work(&bytes, &mut out);
+    out
+}
+
+fn partly_answered(random: &mut Random) -> Vec<u8> {
+    let mut sheet = some(random, 1);
+    for _ in 0..random.between(1, 2) {
+        let at = random.below(sheet.events.len());
+        sheet.events[at][2] = random.small(0, 30);
+    }
+    sheet.bytes()
+}
+
+fn any_answers(random: &mut Random) -> Vec<u8> {
+    let mut sheet = some(random, 0);
+    for event in &mut sheet.events {
+        event[2] = random.small(0, 31);
+    }
+    sheet.bytes()
+}
+
+/// Cut after a block that holds 60 events, so that the sheet is still good.
+fn fewer_blocks(random: &mut Random) -> Vec<u8> {
+    let mut bytes = some(random, 61).bytes();
+    let kept = random.between(1, blocks(&bytes) - 1);
+    bytes.truncate(kept * BLOCK_BYTES);
+    bytes
+}
+
+fn cut(random: &mut Random) -> Vec<u8> {
+    let mut bytes = some(random, 0).bytes();
+    let length = bytes.len();
+    let anywhere = random.below(length);
+    bytes.truncate(random.pick(&[0, 511, length - 1, length - 4, anywhere]));
+    bytes
+}
+
+/// A last block that holds 60 leaves nothing wrong but the block added.
+fn before_addition(random: &mut Random) -> Vec<u8> {
+    if random.chance(50) {
+        return some(random, 0).bytes();
+    }
+    let posts = some_posts(random);
+    let count = random.pick(&[0, 60, 120]);
+    lively_sheet(random, posts, count).bytes()
+}
+
+fn lengthened_by_zeros(random: &mut Random) -> Vec<u8> {
+    let mut bytes = before_addition(random);
+    bytes.resize(bytes.len() + BLOCK_BYTES, 0);
+    bytes
+}
+
+fn lengthened_by_empty(random: &mut Random) -> Vec<u8> {
+    let mut bytes = lengthened_by_zeros(random);
+    let last = blocks(&bytes) - 1;
+    renew(&mut bytes, last);
+    bytes
+}
+
+fn lengthened_by_bytes(random: &mut Random) -> Vec<u8> {
+    let mut bytes = some(random, 0).bytes();
+    let more = random.pick(&[1, 1, 2, 4, 511, 513]);
+    bytes.resize(bytes.len() + more, 0);
+    bytes
+}
+
+fn bit_flipped(random: &mut Random) -> Vec<u8> {
+    let mut bytes = some(random, 0).bytes();
+    let at = random.below(bytes.len());
+    bytes[at] ^= 1 << random.below(8);
+    bytes
+}
+
+/// The sum stays right: what one word gains another of its block loses.
+fn moved_between_words(random: &mut Random) -> Vec<u8> {
+    let mut bytes = some(random, 0).bytes();
+    let at = random.below(blocks(&bytes));
+    let by = random.pick(&[1, 2, 32, 1 << 11, 1 << 16, u32::MAX]);
+    let (one, other) = (random.below(128), random.below(128));
+    let gained = get(&bytes, at, one).wrapping_add(by);
+    put(&mut bytes, at, one, gained);
+    let lost = get(&bytes, at, other).wrapping_sub(by);
+    put(&mut bytes, at, other, lost);
+    bytes
+}
+
+fn blocks_swapped(random: &mut Random) -> Vec<u8> {
+    let mut bytes = some(random, 61).bytes();
+    let count = blocks(&bytes);
+    let one = random.below(count - 1);
+    let other = random.between(one + 1, count - 1);
+    let (front, back) = bytes.split_at_mut(other * BLOCK_BYTES);
+    front[one * BLOCK_BYTES..][..BLOCK_BYTES].swap_with_slice(&mut back[..BLOCK_BYTES]);
+    bytes
+}
+
+/// Word 0 or word 1 of block 0 wrong under a right check.
+fn table_word(random: &mut Random, word: usize) -> Vec<u8> {
+    let mut bytes = some(random, 0).bytes();
+    let right = get(&bytes, 0, word);
+    let near = right.wrapping_add(random.pick(&[1, u32::MAX]));
+    let far = [0, 1, 33, 64, 123, 124, 125, 126, 1 << 31, u32::MAX];
+    let wrong = if random.chance(40) {
+        near
+    } else {
+        random.pick(&far)
+    };
+    put(&mut bytes, 0, word, wrong);
+    renewed(bytes, 0)
+}
+
+/// A table that would be right if it were not so long.
+fn table_too_long(random: &mut Random) -> Vec<u8> {
+    let mut bytes = some(random, 0).bytes();
+    let posts = random.pick(&[33, 34, 64, 124]);
+    let kinds = table(random, posts);
+    put(&mut bytes, 0, 1, posts as u32);
+    for (at, kind) in kinds.iter().enumerate() {
+        put(&mut bytes, 0, 3 + at, *kind);
+    }
+    renewed(bytes, 0)
+}
+
+fn kind_wrong(random: &mut Random) -> Vec<u8> {
+    let sheet = some(random, 0);
+    let at = random.below(sheet.kinds.len());
+    let wrong = [0, 1, 2, 5, 6, 256, 0x8000_0002, u32::MAX];
+    let mut bytes = sheet.bytes();
+    put(&mut bytes, 0, 3 + at, random.pick(&wrong));
+    renewed(bytes, 0)
+}
+
+fn table_filler(random: &mut Random) -> Vec<u8> {
+    let sheet = some(random, 0);
+    let first = 3 + sheet.kinds.len();
+    let anywhere = random.between(first, 126);
+    let at = random.pick(&[first, 126, anywhere]);
+    let mut bytes = sheet.bytes();
+    put(&mut bytes, 0, at, filler(random));
+    renewed(bytes, 0)
+}
+
+/// A change to the words of one block.
+type BlockChange = fn(&mut Random, &mut [u32]);
+
+/// One block (a later one if `first` is 1) changed under a right check.
+fn one_block(random: &mut Random, first: usize, change: BlockChange) -> Vec<u8> {
+    let mut bytes = some(random, first).bytes();
+    let at = random.between(first, blocks(&bytes) - 1);
+    let range = at * BLOCK_BYTES..(at + 1) * BLOCK_BYTES;
+    let mut words = padded(&bytes[range]);
+    change(random, &mut words);
+    for (word, value) in words.iter().enumerate() {
+        put(&mut bytes, at, word, *value);
+    }
+    renewed(bytes, at)
+}
+
+fn set_m(random: &mut Random, block: &mut [u32], list: &[u32]) {
+    block[0] = random.pick(list);
+    // Half of the time it is the only fault.
+    if block[0] == 0 && random.chance(50) {
+        block[1..127].fill(0);
+    }
+}
+
+/// A middle block of fewer than 60, right in all else.
+fn middle_short(random: &mut Random) -> Vec<u8> {
+    let mut bytes = some(random, 61).bytes();
+    let at = random.between(1, blocks(&bytes) - 2);
+    let anywhere = random.small(1, 59);
+    let m = random.pick(&[1, 59, anywhere]);
+    put(&mut bytes, at, 0, m);
+    for word in 1 + 2 * m as usize..127 {
+        put(&mut bytes, at, word, 0);
+    }
+    renewed(bytes, at)
+}
+
+fn upper_bits(random: &mut Random, block: &mut [u32]) {
+    let event = random.below(block[0] as usize);
+    block[1 + 2 * event] |= 1 << random.between(16, 31);
+}
+
+fn later_filler(random: &mut Random, block: &mut [u32]) {
+    let first = 1 + 2 * block[0] as usize;
+    let anywhere = random.between(first, 126);
+    block[random.pick(&[first, 126, anywhere])] = filler(random);
+}
+
+fn any_words(random: &mut Random, block: &mut [u32]) {
+    for word in block {
+        if random.chance(50) {
+            *word = random.edge_word();
+        }
+    }
+}
+
+fn filler(random: &mut Random) -> u32 {
+    random.pick(&[1, 31 << 11, 1 << 16, 1 << 31, u32::MAX])
+}
+
+fn wrong_check(random: &mut Random) -> Vec<u8> {
+    let mut bytes = some(random, 0).bytes();
+    let at = random.below(blocks(&bytes));
+    break_check(random, &mut bytes, at);
+    bytes
+}
+
+/// Every block sums to 317944, as if its number did not matter.
+fn check_without_block(random: &mut Random) -> Vec<u8> {
+    let mut bytes = some(random, 1).bytes();
+    for at in 1..blocks(&bytes) {
+        let without = get(&bytes, at, 127).wrapping_sub(at as u32);
+        put(&mut bytes, at, 127, without);
+    }
+    bytes
+}
+
+fn break_check(random: &mut Random, bytes: &mut [u8], at: usize) {
+    let by = random.pick(&[1, u32::MAX, 1 << 31, CHECK]);
+    let wrong = get(bytes, at, 127).wrapping_add(by);
+    put(bytes, at, 127, wrong);
+}
+
+/// Wrong contents, and the check left as it was.
+fn break_contents(random: &mut Random, bytes: &mut [u8], at: usize) {
+    let word = random.pick(&[0, 126]);
+    let wrong = if word == 0 { 61 } else { filler(random) };
+    put(bytes, at, word, wrong);
+}
+
+/// Two or three blocks wrong, each in its check, its contents or both.
+fn several_bad(random: &mut Random) -> Vec<u8> {
+    let mut bytes = some(random, 61).bytes();
+    for _ in 0..random.between(2, 3) {
+        let at = random.below(blocks(&bytes));
+        match random.below(3) {
+            0 => break_check(random, &mut bytes, at),
+            1 => break_contents(random, &mut bytes, at),
+            _ => {
+                break_contents(random, &mut bytes, at);
+                renew(&mut bytes, at);
+            }
+        }
+    }
+    bytes
+}
+
+fn any_bytes(random: &mut Random) -> Vec<u8> {
+    let length = random.pick(&[0, 1, 4, 511, 512, 513, 1023, 1024, 1025, 1536]);
+    if random.chance(50) {
+        return vec![0; length];
+    }
+    (0..length).map(|_| random.word() as u8).collect()
+}
+
+fn later_block(random: &mut Random, bytes: &[u8]) -> usize {
+    random.between(1, blocks(bytes) - 1)
+}

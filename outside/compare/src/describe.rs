@@ -1,0 +1,141 @@
+//! Requests and the words of their replies, told to a reader.
+
+use model::Post;
+
+use crate::request::{post_words, Request, POST_WORDS};
+
+const FIELDS: [&str; POST_WORDS] = [
+    "relay word",
+    "kind",
+    "a",
+    "x",
+    "y",
+    "v",
+    "g",
+    "r",
+    "q",
+    "e",
+    "c",
+];
+
+impl Request {
+    /// What the word at this place of the reply is.
+    pub fn name_of(&self, reply: &[u32], at: usize) -> String {
+        const TOLD: &[&str] = &["answer", "events taken", "last stamp"];
+        match self {
+            Request::Valid { .. } => named(&["valid"], at, record_word),
+            Request::Start { .. } | Request::Event { .. } => named(TOLD, at, record_word),
+            Request::Read { kinds_room, .. } => {
+                let front = &["number", "block", "posts", "stamp", "events"];
+                named(front, at, |rest| read_word(*kinds_room, rest))
+            }
+            Request::Write { .. } => named(&["number"], at, out_bytes),
+            Request::Work { .. } => {
+                let front = &["number", "block", "records", "events taken", "last stamp"];
+                let records = reply[2] as usize * POST_WORDS;
+                named(front, at, |rest| match rest.checked_sub(records) {
+                    Some(past) => out_bytes(past),
+                    None => record_word(rest),
+                })
+            }
+            Request::Run { kinds, steps, .. } => {
+                let (turn, rest) = split(at, 3 + kinds.len() * POST_WORDS);
+                let name = named(TOLD, rest, record_word);
+                match turn.checked_sub(1) {
+                    None => format!("start: {name}"),
+                    Some(k) => format!("event {turn} of the history {:?}: {name}", steps[k]),
+                }
+            }
+        }
+    }
+
+    /// The inputs in short.
+    pub fn short(&self) -> String {
+        match self {
+            Request::Start { row, kinds, stamp } => {
+                format!("start of {} records by {kinds:?} at {stamp}", row.len())
+            }
+            Request::Valid { row, head } => format!("valid? {head:?}{}", row_text(row)),
+            Request::Event { row, head, step } => {
+                let [number, place, stamp] = step;
+                let row = row_text(row);
+                format!("event {number} at {place}, stamp {stamp}, {head:?}{row}")
+            }
+            Request::Run {
+                kinds,
+                stamp,
+                steps,
+            } => {
+                format!(
+                    "history of {} events on {kinds:?} from {stamp}",
+                    steps.len()
+                )
+            }
+            _ => self.sheet_short(),
+        }
+    }
+
+    /// The same for the calls on sheets.
+    fn sheet_short(&self) -> String {
+        match self {
+            Request::Read {
+                sheet,
+                kinds_room,
+                events_room,
+                ..
+            } => format!(
+                "reading {} bytes into rooms of {kinds_room} kinds and {events_room} events",
+                sheet.len()
+            ),
+            Request::Write {
+                kinds,
+                events,
+                out_len,
+                ..
+            } => format!(
+                "writing {kinds:?} and {} events into {out_len} bytes",
+                events.len()
+            ),
+            Request::Work { sheet, out_len, .. } => {
+                format!("working {} bytes into {out_len} bytes", sheet.len())
+            }
+            _ => String::new(),
+        }
+    }
+}
+
+fn split(at: usize, size: usize) -> (usize, usize) {
+    (at / size, at % size)
+}
+
+fn named(front: &[&str], at: usize, rest: impl Fn(usize) -> String) -> String {
+    match front.get(at) {
+        Some(name) => (*name).to_string(),
+        None => rest(at - front.len()),
+    }
+}
+
+fn record_word(at: usize) -> String {
+    let (post, field) = split(at, POST_WORDS);
+    format!("{} of post {post}", FIELDS[field])
+}
+
+fn read_word(kinds_room: usize, at: usize) -> String {
+    match at.checked_sub(kinds_room) {
+        None => format!("kind {at} of the room"),
+        Some(past) => {
+            let (event, field) = split(past, 4);
+            let name = ["number", "post", "answer", "stamp"][field];
+            format!("{name} of event {event} of the room")
+        }
+    }
+}
+
+fn out_bytes(at: usize) -> String {
+    format!("output bytes {} to {}", 4 * at, 4 * at + 3)
+}
+
+fn row_text(row: &[Post]) -> String {
+    let line = |post: &Post| format!("\n    {:?}", post_words(post));
+    row.iter().map(line).collect()
+}

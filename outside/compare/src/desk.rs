@@ -1,0 +1,164 @@
+//! A library that answers requests, and the desk's calls behind it.
+
+use model::{Entry, Found, Head, Post, Told, Worked};
+
+use crate::request::{padded, post_words, row_words, Reply, Request};
+
+/// Whatever answers requests in order: a child process, or a desk in this one.
+pub trait Library {
+    fn answer(&mut self, requests: &[Request]) -> Vec<Reply>;
+}
+
+/// The desk's calls. They are the model's unless a wrong desk puts another in.
+pub trait Desk {
+    fn start(&mut self, row: &mut [Post], kinds: &[u32], stamp: u32) -> Told {
+        model::start(row, kinds, stamp)
+    }
+
+    fn valid(&mut self, row: &[Post], head: Head) -> bool {
+        model::valid(row, head)
+    }
+
+    fn event(&mut self, row: &mut [Post], head: Head, step: [u32; 3]) -> Told {
+        let [number, place, stamp] = step;
+        model::event(row, head, number, place, stamp)
+    }
+
+    fn read(&mut self, sheet: &[u8], kinds: &mut [u32], events: &mut [Entry]) -> Found {
+        model::read(sheet, kinds, events)
+    }
+
+    fn write(&mut self, kinds: &[u32], stamp: u32, events: &[Entry], out: &mut [u8]) -> u32 {
+        model::write(kinds, stamp, events, out)
+    }
+
+    fn work(&mut self, sheet: &[u8], out: &mut [u8]) -> Worked {
+        model::work(sheet, out)
+    }
+}
+
+/// The model as it stands.
+pub struct Model;
+
+impl Desk for Model {}
+
+/// A desk in this process as a library.
+pub struct InProcess<D>(pub D);
+
+impl<D: Desk> Library for InProcess<D> {
+    fn answer(&mut self, requests: &[Request]) -> Vec<Reply> {
+        requests
+            .iter()
+            .map(|request| reply(&mut self.0, request))
+            .collect()
+    }
+}
+
+/// The reply that this desk gives, whole.
+pub fn reply(desk: &mut dyn Desk, request: &Request) -> Reply {
+    match request {
+        Request::Start { row, kinds, stamp } => {
+            let mut row = row.clone();
+            let told = desk.start(&mut row, kinds, *stamp);
+            told_words(told, &row)
+        }
+        Request::Valid { row, head } => {
+            let mut words = vec![u32::from(desk.valid(row, *head))];
+            words.extend(row_words(row));
+            words
+        }
+        Request::Event { row, head, step } => {
+            let mut row = row.clone();
+            let told = desk.event(&mut row, *head, *step);
+            told_words(told, &row)
+        }
+        Request::Run {
+            kinds,
+            stamp,
+            steps,
+        } => run(desk, kinds, *stamp, steps),
+        _ => sheet_reply(desk, request),
+    }
+}
+
+/// The same for the calls on sheets.
+fn sheet_reply(desk: &mut dyn Desk, request: &Request) -> Reply {
+    match request {
+        Request::Read {
+            sheet,
+            kinds_room,
+            events_room,
+            fill,
+        } => {
+            let mut kinds = vec![*fill; *kinds_room];
+            let mut events = vec![[*fill; 4]; *events_room];
+            let found = desk.read(sheet, &mut kinds, &mut events);
+            found_words(found, &kinds, &events)
+        }
+        Request::Work {
+            sheet,
+            out_len,
+            fill,
+        } => {
+            let mut out = vec![*fill; *out_len];
+            let worked = desk.work(sheet, &mut out);
+            worked_words(&worked, &out)
+        }
+        Request::Write {
+            kinds,
+            stamp,
+            events,
+            out_len,
+            fill,
+        } => {
+            let mut out = vec![*fill; *out_len];
+            let mut words = vec![desk.write(kinds, *stamp, events, &mut out)];
+            words.extend(padded(&out));
+            words
+        }
+        _ => Vec::new(),
+    }
+}
+
+fn found_words(found: Found, kinds: &[u32], events: &[Entry]) -> Reply {
+    let mut words = vec![found.number, found.block];
+    words.extend([found.posts, found.stamp, found.events]);
+    words.extend(kinds);
+    words.extend(events.concat());
+    words
+}
+
+fn worked_words(worked: &Worked, out: &[u8]) -> Reply {
+    let Head { taken, last } = worked.head;
+    let records = worked.row.len() as u32;
+    let mut words = vec![worked.number, worked.block, records, taken, last];
+    words.extend(row_words(&worked.row));
+    words.extend(padded(out));
+    words
+}
+
+fn told_words(told: Told, row: &[Post]) -> Reply {
+    let mut words = Vec::with_capacity(3 + row.len() * 11);
+    push_told(&mut words, told, row);
+    words
+}
+
+fn push_told(words: &mut Vec<u32>, told: Told, row: &[Post]) {
+    words.extend([told.answer, told.head.taken, told.head.last]);
+    for post in row {
+        words.extend(post_words(post));
+    }
+}
+
+/// A history from a start: what is told and the whole row, after each event.
+fn run(desk: &mut dyn Desk, kinds: &[u32], stamp: u32, steps: &[[u32; 3]]) -> Reply {
+    let mut row = vec![Post::default(); kinds.len()];
+    let mut told = desk.start(&mut row, kinds, stamp);
+    let mut words = Vec::with_capacity((1 + steps.len()) * (3 + row.len() * 11));
+    push_told(&mut words, told, &row);
+    for &step in steps {
+        told = desk.event(&mut row, told.head, step);
+        push_told(&mut words, told, &row);
+    }
+    words
+}

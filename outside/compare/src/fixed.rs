@@ -1,0 +1,170 @@
+//! The working program's fixed cases, always run.
+
+use model::{Entry, MOST_EVENTS, UNANSWERED};
+
+use crate::histories::{lively_event, near_stamp, Play};
+use crate::random::Random;
+use crate::sheets::{lively_sheet, put, renewed, Sheet};
+
+/// 01, The program and one listing: the text as the paper has it.
+pub const PAPERS_LISTING: &str = "\
+1 1 0 0
+2 4 0 0
+3 5 0 10
+4 2 0 0
+5 1 0 8
+6 5 0 0
+7 3 1 0
+8 8 0 0
+9 6 1 12
+10 3 1 0
+11 6 1 0
+12 9 0 0
+13 1 0 8
+14 10 0 0
+15 1 0 0
+S 0 1 1 0 1 1 1 0 1 0
+";
+
+/// A sheet for the program and what it must print.
+pub struct Fixed {
+    pub name: &'static str,
+    pub sheet: Vec<u8>,
+    pub listing: String,
+}
+
+/// The sort number of the sheets built here.
+const BUILT: u64 = 101;
+
+/// A sheet of kinds 0, 1 from stamp 0; event k is stamped 1000k.
+fn short_sheet(events: &[(u32, u32)]) -> Sheet {
+    let entry = |(k, &(number, post)): (u32, &(u32, u32))| [number, post, UNANSWERED, 1000 * k];
+    Sheet {
+        kinds: vec![0, 1],
+        stamp: 0,
+        events: (1..).zip(events).map(entry).collect(),
+    }
+}
+
+fn papers_sheet() -> Vec<u8> {
+    let events = [
+        (1, 0),
+        (4, 0),
+        (5, 0),
+        (2, 0),
+        (1, 0),
+        (5, 0),
+        (3, 1),
+        (8, 0),
+        (6, 1),
+        (3, 1),
+        (6, 1),
+        (9, 0),
+        (1, 0),
+        (10, 0),
+        (1, 0),
+    ];
+    short_sheet(&events).bytes()
+}
+
+/// 32 posts, kinds 2, 3 and 4 inside by turns, and a history in which every event
+/// is taken and each answer that a sheet can get is given.
+pub fn sheet_of_everything() -> Sheet {
+    let mut kinds: Vec<u32> = (0..32).map(|at| 2 + at % 3).collect();
+    kinds[0] = 0;
+    kinds[31] = 1;
+    let stamp = u32::MAX - 100_000;
+    let mut play = Play::from_start(&kinds, stamp);
+    let mut random = Random::of_case(0, BUILT, 0);
+    let mut events: Vec<Entry> = Vec::new();
+    let mut answers = [false; 18];
+    let mut taken = [false; 11];
+    while events.len() < 1500 {
+        let mut before = play.clone();
+        let at = near_stamp(&mut random, play.head.last);
+        let [number, place, stamp] = lively_event(&mut random, &mut play, at);
+        let answer = before.take([number, place, stamp]);
+        answers[answer as usize] = true;
+        if answer == 0 {
+            taken[number as usize] = true;
+        }
+        events.push([number, place, UNANSWERED, stamp]);
+    }
+    for answer in [0, 2, 3, 4].into_iter().chain(6..=17) {
+        assert!(answers[answer], "the built sheet lacks answer {answer}");
+    }
+    assert!(
+        taken[1..].iter().all(|&is| is),
+        "the built sheet lacks an event"
+    );
+    Sheet {
+        kinds,
+        stamp,
+        events,
+    }
+}
+
+/// The cases that are always run. What is refused is typed in, not computed.
+pub fn fixed_cases() -> Vec<Fixed> {
+    let refused = |name, sheet, number: u32, block: u32| Fixed {
+        name,
+        sheet,
+        listing: format!("refused {number} {block}\n"),
+    };
+    let mut cases = vec![
+        Fixed {
+            name: "the paper's fifteen events",
+            sheet: papers_sheet(),
+            listing: PAPERS_LISTING.to_string(),
+        },
+        Fixed {
+            name: "a header alone",
+            sheet: short_sheet(&[]).bytes(),
+            listing: "S 0 0 0 0 0 0 0 0 0 0\n".to_string(),
+        },
+        refused("empty input", vec![], 18, 0),
+        refused("511 bytes", vec![0; 511], 18, 0),
+        refused("513 bytes", vec![0; 513], 18, 0),
+        refused("512 bytes of zeros", vec![0; 512], 19, 0),
+        refused("33,280 bytes", vec![0; 33_280], 18, 0),
+        refused("3,000,000 bytes", vec![1; 3_000_000], 18, 0),
+    ];
+    cases.extend(fixed_damaged(&refused));
+    cases.extend(fixed_large());
+    cases
+}
+
+fn fixed_damaged(refused: &dyn Fn(&'static str, Vec<u8>, u32, u32) -> Fixed) -> Vec<Fixed> {
+    let changed = |block, word, value| {
+        let mut sheet = short_sheet(&[(1, 0); 200]).bytes();
+        put(&mut sheet, block, word, value);
+        sheet
+    };
+    let paper = papers_sheet();
+    let mut worked = vec![0; paper.len()];
+    model::work(&paper, &mut worked);
+    let wrong_table = renewed(changed(0, 0, 2), 0);
+    let wrong_later = renewed(changed(3, 0, 59), 3);
+    vec![
+        refused("wrong contents in block 0", wrong_table, 20, 0),
+        refused("wrong contents in block 3", wrong_later, 20, 3),
+        refused("wrong check in block 2", changed(2, 126, 1), 19, 2),
+        refused("wrong check in block 4", changed(4, 0, 19), 19, 4),
+        refused("already worked", worked, 20, 1),
+    ]
+}
+
+fn fixed_large() -> Vec<Fixed> {
+    let mut random = Random::of_case(0, BUILT, 1);
+    let everything = sheet_of_everything().bytes();
+    let full = lively_sheet(&mut random, 32, MOST_EVENTS).bytes();
+    let computed = |name, sheet: Vec<u8>| Fixed {
+        name,
+        listing: model::listing(&sheet),
+        sheet,
+    };
+    vec![
+        computed("every event and answer at 32 posts", everything),
+        computed("3,780 events at 32 posts", full),
+    ]
+}

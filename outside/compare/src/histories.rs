@@ -1,0 +1,228 @@
+//! Histories on a right table: lively, wild, and round the clock's turn.
+
+use model::{relay, Head, Post};
+
+use crate::cases::Variety;
+use crate::random::Random;
+use crate::request::{Request, Step};
+
+pub const LIVELY: &[Variety] = &[
+    ("two posts", |random| lively(random, 2, 2, 200)),
+    ("few posts", |random| lively(random, 3, 5, 300)),
+    ("some posts", |random| lively(random, 4, 9, 400)),
+    ("many posts", |random| lively(random, 10, 32, 300)),
+    ("kind 2 inside", |random| lively_inside(random, 2)),
+    ("kind 3 inside", |random| lively_inside(random, 3)),
+    ("kind 4 inside", |random| lively_inside(random, 4)),
+    ("long", long),
+];
+
+pub const WILD: &[Variety] = &[
+    ("any numbers", |random| wild(random, [100, 10, 10])),
+    ("any places", |random| wild(random, [10, 100, 10])),
+    ("any stamps", |random| wild(random, [10, 10, 100])),
+    ("any of all", |random| wild(random, [80, 80, 80])),
+];
+
+pub const TURN: &[Variety] = &[
+    ("from near 2^32", |random| turn(random, 0)),
+    ("from near 2^31", |random| turn(random, 1 << 31)),
+    ("from anywhere", |random| {
+        let from = random.word();
+        turn(random, from)
+    }),
+];
+
+/// Differences of stamps on both sides of where "behind" begins.
+const DIFFERENCES: [u32; 6] = [0, 1, 0x7FFF_FFFF, 0x8000_0000, 0x8000_0001, 0xFFFF_FFFF];
+
+/// How often each event is tried: arrivals and announcements keep a line moving.
+const TRIED: [u32; 24] = [
+    1, 1, 2, 2, 3, 3, 3, 4, 4, 5, 5, 5, 6, 6, 6, 7, 7, 8, 8, 8, 8, 9, 10, 10,
+];
+
+/// A line as the model plays it.
+#[derive(Clone)]
+pub struct Play {
+    pub row: Vec<Post>,
+    pub head: Head,
+}
+
+impl Play {
+    pub fn from_start(kinds: &[u32], stamp: u32) -> Self {
+        let mut row = vec![Post::default(); kinds.len()];
+        let head = model::start(&mut row, kinds, stamp).head;
+        Play { row, head }
+    }
+
+    pub fn take(&mut self, [number, place, stamp]: Step) -> u32 {
+        let told = model::event(&mut self.row, self.head, number, place, stamp);
+        self.head = told.head;
+        told.answer
+    }
+}
+
+/// A right table of this many posts.
+pub fn table(random: &mut Random, posts: usize) -> Vec<u32> {
+    let mut kinds: Vec<u32> = (0..posts).map(|_| random.small(2, 4)).collect();
+    kinds[0] = 0;
+    kinds[posts - 1] = 1;
+    kinds
+}
+
+/// Mostly few posts: what a reply weighs grows with them.
+pub fn some_posts(random: &mut Random) -> usize {
+    match random.below(20) {
+        0..=13 => random.between(2, 5),
+        14..=17 => random.between(6, 12),
+        _ => random.between(13, 32),
+    }
+}
+
+fn any_event(random: &mut Random, posts: usize) -> (u32, u32) {
+    let number = match random.below(8) {
+        0 => random.small(0, 31),
+        _ => random.small(1, 10),
+    };
+    let place = random.below(posts + 2) as u32;
+    (number, place)
+}
+
+/// Whether a pedal strike would alter something; all others are refused if not.
+fn alters(post: &Post, number: u32) -> bool {
+    match number {
+        3 => post.is_up(relay::AN) && !post.is_up(relay::KPG),
+        4 => post.is_up(relay::SIGNAL),
+        _ => true,
+    }
+}
+
+/// One event at this stamp, already played: most often one that is taken.
+pub fn lively_event(random: &mut Random, play: &mut Play, stamp: u32) -> Step {
+    let posts = play.row.len();
+    let tries = if random.chance(15) { 0 } else { 14 };
+    for _ in 0..tries {
+        let (number, place) = (random.pick(&TRIED), random.below(posts));
+        if !alters(&play.row[place], number) && !random.chance(10) {
+            continue;
+        }
+        let step = [number, place as u32, stamp];
+        if play.take(step) == 0 {
+            return step;
+        }
+    }
+    let (number, place) = any_event(random, posts);
+    let step = [number, place, stamp];
+    play.take(step);
+    step
+}
+
+/// A stamp not far from the last, now and then behind it.
+pub fn near_stamp(random: &mut Random, last: u32) -> u32 {
+    match random.below(30) {
+        0 => last.wrapping_sub(random.small(1, 5000)),
+        1..=6 => last,
+        _ => last.wrapping_add(random.small(1, 5000)),
+    }
+}
+
+fn lively(random: &mut Random, least: usize, most: usize, events: usize) -> Request {
+    let posts = random.between(least, most);
+    let kinds = table(random, posts);
+    lively_on(random, kinds, events)
+}
+
+fn lively_inside(random: &mut Random, kind: u32) -> Request {
+    let posts = random.between(3, 6);
+    let mut kinds = table(random, posts);
+    kinds[1..posts - 1].fill(kind);
+    lively_on(random, kinds, 300)
+}
+
+fn lively_on(random: &mut Random, kinds: Vec<u32>, most: usize) -> Request {
+    let count = random.between(most / 4, most);
+    let stamp = random.edge_word();
+    let mut play = Play::from_start(&kinds, stamp);
+    let mut steps = Vec::with_capacity(count);
+    for _ in 0..count {
+        let at = near_stamp(random, play.head.last);
+        steps.push(lively_event(random, &mut play, at));
+    }
+    Request::Run {
+        kinds,
+        stamp,
+        steps,
+    }
+}
+
+/// Seldom as long as the server allows.
+fn long(random: &mut Random) -> Request {
+    let most = if random.chance(10) { 4096 } else { 800 };
+    lively(random, 2, 4, most)
+}
+
+/// Each of number, place and stamp is anything with its chance, else near.
+fn wild(random: &mut Random, chances: [usize; 3]) -> Request {
+    let posts = some_posts(random);
+    let kinds = table(random, posts);
+    let stamp = random.edge_word();
+    let mut play = Play::from_start(&kinds, stamp);
+    let count = random.between(1, 120);
+    let mut steps = Vec::with_capacity(count);
+    for _ in 0..count {
+        let step = wild_step(random, &play, chances);
+        play.take(step);
+        steps.push(step);
+    }
+    Request::Run {
+        kinds,
+        stamp,
+        steps,
+    }
+}
+
+pub fn wild_step(random: &mut Random, play: &Play, chances: [usize; 3]) -> Step {
+    let (mut number, mut place) = any_event(random, play.row.len().max(2));
+    let mut stamp = near_stamp(random, play.head.last);
+    if random.chance(chances[0]) {
+        number = match random.below(4) {
+            0 => random.small(0, 31),
+            1 => random.pick(&[0, 11, 12, 16, 31, 32, 33, 42, 256 + 1]),
+            2 => random.edge_word(),
+            _ => random.small(8, 11),
+        };
+    }
+    if random.chance(chances[1]) {
+        let posts = play.row.len() as u32;
+        place = match random.below(4) {
+            0 => posts.wrapping_sub(random.small(0, 2)),
+            1 => posts + random.small(0, 40),
+            2 => random.edge_word(),
+            _ => random.pick(&[posts + 256, posts | 0x8000_0000, 1 << 16, 1 << 30]),
+        };
+    }
+    if random.chance(chances[2]) {
+        stamp = random.edge_word();
+    }
+    [number, place, stamp]
+}
+
+/// Stamps whose differences stand around the clock's turn.
+fn turn(random: &mut Random, near: u32) -> Request {
+    let posts = some_posts(random).min(8);
+    let kinds = table(random, posts);
+    let stamp = near.wrapping_add(random.small(0, 6)).wrapping_sub(3);
+    let mut play = Play::from_start(&kinds, stamp);
+    let count = random.between(4, 100);
+    let mut steps = Vec::with_capacity(count);
+    for _ in 0..count {
+        let difference = random.pick(&DIFFERENCES);
+        let at = play.head.last.wrapping_add(difference);
+        steps.push(lively_event(random, &mut play, at));
+    }
+    Request::Run {
+        kinds,
+        stamp,
+        steps,
+    }
+}

@@ -1,0 +1,187 @@
+//! The requests to a library, their words on the wire, and the shape of replies.
+
+use model::{Entry, Head, Post};
+
+/// A reply's words, whole: answer, head, every record, every byte of a room.
+pub type Reply = Vec<u32>;
+
+/// An event of a history: number, place, stamp.
+pub type Step = [u32; 3];
+
+pub const POST_WORDS: usize = 11;
+
+#[derive(Clone, Debug)]
+pub enum Request {
+    Start {
+        row: Vec<Post>,
+        kinds: Vec<u32>,
+        stamp: u32,
+    },
+    Valid {
+        row: Vec<Post>,
+        head: Head,
+    },
+    Event {
+        row: Vec<Post>,
+        head: Head,
+        step: Step,
+    },
+    Read {
+        sheet: Vec<u8>,
+        kinds_room: usize,
+        events_room: usize,
+        fill: u32,
+    },
+    Write {
+        kinds: Vec<u32>,
+        stamp: u32,
+        events: Vec<Entry>,
+        out_len: usize,
+        fill: u8,
+    },
+    Work {
+        sheet: Vec<u8>,
+        out_len: usize,
+        fill: u8,
+    },
+    Run {
+        kinds: Vec<u32>,
+        stamp: u32,
+        steps: Vec<Step>,
+    },
+}
+
+impl Request {
+    /// The request as the server reads it.
+    pub fn words(&self) -> Vec<u32> {
+        let size = |n: usize| n as u32;
+        match self {
+            Request::Start { row, kinds, stamp } => {
+                let front = [1, size(row.len()), size(kinds.len()), *stamp];
+                joined(&front, &[&row_words(row), kinds])
+            }
+            Request::Valid { row, head } => {
+                let front = [2, size(row.len()), head.taken, head.last];
+                joined(&front, &[&row_words(row)])
+            }
+            Request::Event { row, head, step } => {
+                let front = [3, size(row.len()), head.taken, head.last];
+                joined(&front, &[step, &row_words(row)])
+            }
+            Request::Run {
+                kinds,
+                stamp,
+                steps,
+            } => {
+                let front = [7, size(kinds.len()), *stamp, size(steps.len())];
+                joined(&front, &[kinds, &steps.concat()])
+            }
+            _ => self.sheet_words(),
+        }
+    }
+
+    /// The same for the calls on sheets.
+    fn sheet_words(&self) -> Vec<u32> {
+        let size = |n: usize| n as u32;
+        match self {
+            Request::Read {
+                sheet,
+                kinds_room,
+                events_room,
+                fill,
+            } => {
+                let rooms = [size(*kinds_room), size(*events_room), *fill];
+                joined(&[4, size(sheet.len())], &[&rooms, &padded(sheet)])
+            }
+            Request::Write {
+                kinds,
+                stamp,
+                events,
+                out_len,
+                fill,
+            } => {
+                let front = [5, size(kinds.len()), *stamp, size(events.len())];
+                let out = [size(*out_len), u32::from(*fill)];
+                joined(&front, &[&out, kinds, &events.concat()])
+            }
+            Request::Work {
+                sheet,
+                out_len,
+                fill,
+            } => {
+                let front = [6, size(sheet.len()), size(*out_len), u32::from(*fill)];
+                joined(&front, &[&padded(sheet)])
+            }
+            _ => Vec::new(),
+        }
+    }
+
+    /// How many words of a reply tell how long it is in all.
+    pub fn reply_front(&self) -> usize {
+        match self {
+            Request::Work { .. } => 5,
+            _ => 1,
+        }
+    }
+
+    /// How long the reply is in all. Only a working's depends on what it says.
+    pub fn reply_len(&self, front: &[u32]) -> usize {
+        match self {
+            Request::Start { row, .. } | Request::Event { row, .. } => 3 + row.len() * POST_WORDS,
+            Request::Valid { row, .. } => 1 + row.len() * POST_WORDS,
+            Request::Read {
+                kinds_room,
+                events_room,
+                ..
+            } => 5 + kinds_room + events_room * 4,
+            Request::Write { out_len, .. } => 1 + out_len.div_ceil(4),
+            Request::Work { out_len, .. } => {
+                5 + front[2] as usize * POST_WORDS + out_len.div_ceil(4)
+            }
+            Request::Run { kinds, steps, .. } => (1 + steps.len()) * (3 + kinds.len() * POST_WORDS),
+        }
+    }
+}
+
+fn joined(front: &[u32], parts: &[&[u32]]) -> Vec<u32> {
+    let mut words = front.to_vec();
+    for part in parts {
+        words.extend_from_slice(part);
+    }
+    words
+}
+
+pub fn post_words(p: &Post) -> [u32; POST_WORDS] {
+    [p.word, p.kind, p.a, p.x, p.y, p.v, p.g, p.r, p.q, p.e, p.c]
+}
+
+pub fn post_of(words: &[u32; POST_WORDS]) -> Post {
+    let [word, kind, a, x, y, v, g, r, q, e, c] = *words;
+    Post {
+        word,
+        kind,
+        a,
+        x,
+        y,
+        v,
+        g,
+        r,
+        q,
+        e,
+        c,
+    }
+}
+
+pub fn row_words(row: &[Post]) -> Vec<u32> {
+    row.iter().flat_map(post_words).collect()
+}
+
+/// Bytes as words, with zero bytes at the end.
+pub fn padded(bytes: &[u8]) -> Vec<u32> {
+    let word = |four: &[u8]| {
+        let mut whole = [0; 4];
+        whole[..four.len()].copy_from_slice(four);
+        u32::from_le_bytes(whole)
+    };
+    bytes.chunks(4).map(word).collect()
+}

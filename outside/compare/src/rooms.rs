@@ -1,0 +1,98 @@
+//! Reading and working of all kinds of sheets, into rooms around what is needed.
+
+use model::EVENTS_PER_BLOCK;
+
+use crate::damage::KINDS;
+use crate::random::Random;
+use crate::request::Request;
+use crate::sheets::{blocks, get, some};
+
+/// Rooms for a reading: its name, and by how much each differs from what is needed.
+/// A room can't be below nothing, so a far lower one has no place at all.
+type Rooms = (&'static str, i64, i64);
+
+pub const ROOMS: &[Rooms] = &[
+    ("rooms exact", 0, 0),
+    ("rooms one over", 1, 1),
+    ("rooms far over", 9, 70),
+    ("kinds room one short", -1, 1),
+    ("events room one short", 1, -1),
+    ("both rooms one short", -1, -1),
+    ("no kinds room", -999, 1),
+    ("no events room", 1, -9999),
+];
+
+/// Outputs for a working: its name, and by how much it differs from the sheet.
+pub const OUTPUTS: &[(&str, i64)] = &[
+    ("output exact", 0),
+    ("output one short", -1),
+    ("output one over", 1),
+    ("output a block over", 512),
+    ("output a block short", -512),
+    ("no output", -99_999),
+];
+
+fn about(needed: usize, by: i64) -> usize {
+    (needed as i64 + by).max(0) as usize
+}
+
+pub fn reading_names() -> Vec<&'static str> {
+    let kinds = KINDS.iter().map(|kind| kind.0);
+    kinds.chain(ROOMS.iter().map(|rooms| rooms.0)).collect()
+}
+
+pub fn reading(random: &mut Random, variety: usize) -> Request {
+    let (sheet, posts, events, rooms) = match variety.checked_sub(KINDS.len()) {
+        Some(at) => {
+            let sheet = some(random, 0);
+            let (posts, events) = (sheet.kinds.len(), sheet.events.len());
+            (sheet.bytes(), posts, events, ROOMS[at])
+        }
+        None => {
+            let sheet = KINDS[variety].1(random);
+            // What it says of itself, if it is as long as that.
+            let posts = if sheet.len() < 8 {
+                0
+            } else {
+                get(&sheet, 0, 1)
+            };
+            let events = EVENTS_PER_BLOCK * blocks(&sheet).saturating_sub(1);
+            let rooms = if random.chance(80) {
+                ROOMS[2]
+            } else {
+                random.pick(ROOMS)
+            };
+            (sheet, posts.min(40) as usize, events, rooms)
+        }
+    };
+    Request::Read {
+        sheet,
+        kinds_room: about(posts, rooms.1),
+        events_room: about(events, rooms.2),
+        fill: random.word(),
+    }
+}
+
+pub fn working_names() -> Vec<&'static str> {
+    let kinds = KINDS.iter().map(|kind| kind.0);
+    kinds.chain(OUTPUTS.iter().map(|out| out.0)).collect()
+}
+
+pub fn working(random: &mut Random, variety: usize) -> Request {
+    let (sheet, by) = match variety.checked_sub(KINDS.len()) {
+        Some(at) => (some(random, 0).bytes(), OUTPUTS[at].1),
+        None => {
+            let by = if random.chance(80) {
+                0
+            } else {
+                random.pick(OUTPUTS).1
+            };
+            (KINDS[variety].1(random), by)
+        }
+    };
+    Request::Work {
+        out_len: about(sheet.len(), by),
+        sheet,
+        fill: random.word() as u8,
+    }
+}

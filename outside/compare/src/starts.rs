@@ -1,0 +1,79 @@
+//! Starts: right and wrong tables, rows of another length.
+
+use model::Post;
+
+use crate::cases::Variety;
+use crate::histories::table;
+use crate::random::Random;
+use crate::request::{post_of, Request, POST_WORDS};
+
+pub const STARTS: &[Variety] = &[
+    ("right", |random| {
+        let posts = random.between(2, 32);
+        let kinds = table(random, posts);
+        start(random, kinds, posts)
+    }),
+    ("right, of length 2 or 32", |random| {
+        let posts = random.pick(&[2, 32]);
+        let kinds = table(random, posts);
+        start(random, kinds, posts)
+    }),
+    ("right-looking, too short", |random| {
+        let kinds = random.pick(&[&[] as &[u32], &[0], &[1]]).to_vec();
+        let posts = kinds.len();
+        start(random, kinds, posts)
+    }),
+    ("right-looking, too long", |random| {
+        let posts = random.pick(&[33, 34, 40, 64]);
+        let kinds = table(random, posts);
+        start(random, kinds, posts)
+    }),
+    ("right table, another row length", |random| {
+        let posts = random.between(2, 32);
+        let kinds = table(random, posts);
+        let row = random.pick(&[0, 1, 2, posts - 1, posts + 1, 32, 33, 64]);
+        start(random, kinds, row)
+    }),
+    ("kind out of range", |random| {
+        let kind = random.pick(&[5, 6, 31, 256, 0x8000_0002, u32::MAX]);
+        one_kind(random, kind)
+    }),
+    ("origin or terminus inside", |random| {
+        let kind = random.pick(&[0, 1]);
+        one_kind(random, kind)
+    }),
+    ("first or last wrong", |random| {
+        let posts = random.between(2, 32);
+        let mut kinds = table(random, posts);
+        let at = random.pick(&[0, posts - 1]);
+        kinds[at] = random.small(0, 5);
+        start(random, kinds, posts)
+    }),
+    ("any table", |random| {
+        let posts = random.between(0, 64);
+        let kinds = (0..posts).map(|_| random.small(0, 5)).collect();
+        start(random, kinds, posts)
+    }),
+];
+
+/// One post has this kind, most often one inside.
+fn one_kind(random: &mut Random, kind: u32) -> Request {
+    let posts = random.between(3, 32);
+    let mut kinds = table(random, posts);
+    let at = random.between(1, posts - 1);
+    kinds[at] = kind;
+    start(random, kinds, posts)
+}
+
+/// The row is lent with any words in it, so that what stays can be seen.
+fn start(random: &mut Random, kinds: Vec<u32>, row: usize) -> Request {
+    let row: Vec<Post> = (0..row)
+        .map(|_| {
+            let mut words = [0; POST_WORDS];
+            words.fill_with(|| random.word());
+            post_of(&words)
+        })
+        .collect();
+    let stamp = random.edge_word();
+    Request::Start { row, kinds, stamp }
+}

@@ -1,0 +1,197 @@
+//! The calls of `include/desk.h` over slices: what C must promise of its pointers holds of every slice, so none of
+//! these functions asks anything of its caller. What each promises stands in the header.
+
+/// The record of a post, laid out as `struct desk_post`.
+#[repr(C)]
+#[derive(Clone, Copy, Debug, Default, PartialEq, Eq)]
+pub struct Post {
+    pub word: u32,
+    pub kind: u32,
+    pub a: u32,
+    pub x: u32,
+    pub y: u32,
+    pub v: u32,
+    pub g: u32,
+    pub r: u32,
+    pub q: u32,
+    pub e: u32,
+    pub c: u32,
+}
+
+/// The session head.
+#[repr(C)]
+#[derive(Clone, Copy, Debug, Default, PartialEq, Eq)]
+pub struct Head {
+    pub taken: u32,
+    pub last: u32,
+}
+
+/// An answer and the head after it.
+#[repr(C)]
+#[derive(Clone, Copy, Debug, Default, PartialEq, Eq)]
+pub struct Told {
+    pub answer: u32,
+    pub head: Head,
+}
+
+/// A sheet's refusal and the block that it names, or zeros.
+#[repr(C)]
+#[derive(Clone, Copy, Debug, Default, PartialEq, Eq)]
+pub struct Verdict {
+    pub number: u32,
+    pub block: u32,
+}
+
+/// What reading returns.
+#[repr(C)]
+#[derive(Clone, Copy, Debug, Default, PartialEq, Eq)]
+pub struct Found {
+    pub number: u32,
+    pub block: u32,
+    pub posts: u32,
+    pub stamp: u32,
+    pub events: u32,
+}
+
+/// A line of at most 32 records.
+#[repr(C)]
+#[derive(Clone, Copy, Debug, PartialEq, Eq)]
+pub struct Row {
+    posts: [Post; 32],
+    n: usize,
+}
+
+impl Row {
+    pub fn posts(&self) -> &[Post] {
+        &self.posts[..self.n]
+    }
+}
+
+/// What working a sheet returns.
+#[repr(C)]
+#[derive(Clone, Copy, Debug, PartialEq, Eq)]
+pub struct Worked {
+    pub number: u32,
+    pub block: u32,
+    pub row: Row,
+    pub head: Head,
+}
+
+/// An event of a sheet: number, post or section, answer, stamp.
+pub type Entry = [u32; 4];
+
+mod c {
+    use super::*;
+
+    #[cfg_attr(target_arch = "x86_64", link(name = "lent", kind = "static"))]
+    #[cfg_attr(target_arch = "x86_64", link(name = "panel", kind = "static"))]
+    extern "C" {
+        pub fn desk_valid(row: *const Post, n: usize, head: Head) -> bool;
+        pub fn desk_start(
+            row: *mut Post,
+            n: usize,
+            kinds: *const u32,
+            k: usize,
+            stamp: u32,
+        ) -> Told;
+        pub fn desk_event(
+            row: *mut Post,
+            n: usize,
+            head: Head,
+            number: u32,
+            place: u32,
+            stamp: u32,
+        ) -> Told;
+        pub fn desk_test(sheet: *const u8, n: usize) -> Verdict;
+        pub fn desk_read(
+            sheet: *const u8,
+            n: usize,
+            kinds: *mut u32,
+            k: usize,
+            events: *mut Entry,
+            m: usize,
+        ) -> Found;
+        pub fn desk_write(
+            kinds: *const u32,
+            k: usize,
+            stamp: u32,
+            events: *const Entry,
+            m: usize,
+            out: *mut u8,
+            n: usize,
+        ) -> u32;
+        pub fn desk_work(sheet: *const u8, n: usize, out: *mut u8, room: usize) -> Worked;
+    }
+}
+
+// Each call below passes the pointer and the count of one slice: valid, aligned, never null, and what may be written
+// is borrowed by nothing else. That is all that the header asks of a caller.
+
+/// Whether the row may be used as a line with this head.
+pub fn valid(row: &[Post], head: Head) -> bool {
+    // SAFETY: see above.
+    unsafe { c::desk_valid(row.as_ptr(), row.len(), head) }
+}
+
+/// A fresh line from a table of kinds.
+pub fn start(row: &mut [Post], kinds: &[u32], stamp: u32) -> Told {
+    // SAFETY: see above.
+    unsafe {
+        c::desk_start(
+            row.as_mut_ptr(),
+            row.len(),
+            kinds.as_ptr(),
+            kinds.len(),
+            stamp,
+        )
+    }
+}
+
+/// One event at a post, or for 8, 9 and 10 at a section.
+pub fn event(row: &mut [Post], head: Head, number: u32, place: u32, stamp: u32) -> Told {
+    // SAFETY: see above.
+    unsafe { c::desk_event(row.as_mut_ptr(), row.len(), head, number, place, stamp) }
+}
+
+/// Tests a sheet.
+pub fn test(sheet: &[u8]) -> Verdict {
+    // SAFETY: see above.
+    unsafe { c::desk_test(sheet.as_ptr(), sheet.len()) }
+}
+
+/// Reads a sheet to the front of two rooms.
+pub fn read(sheet: &[u8], kinds: &mut [u32], events: &mut [Entry]) -> Found {
+    // SAFETY: see above.
+    unsafe {
+        c::desk_read(
+            sheet.as_ptr(),
+            sheet.len(),
+            kinds.as_mut_ptr(),
+            kinds.len(),
+            events.as_mut_ptr(),
+            events.len(),
+        )
+    }
+}
+
+/// Writes a sheet to the front of `out`.
+pub fn write(kinds: &[u32], stamp: u32, events: &[Entry], out: &mut [u8]) -> u32 {
+    // SAFETY: see above.
+    unsafe {
+        c::desk_write(
+            kinds.as_ptr(),
+            kinds.len(),
+            stamp,
+            events.as_ptr(),
+            events.len(),
+            out.as_mut_ptr(),
+            out.len(),
+        )
+    }
+}
+
+/// Works a sheet to the front of `out`.
+pub fn work(sheet: &[u8], out: &mut [u8]) -> Worked {
+    // SAFETY: see above.
+    unsafe { c::desk_work(sheet.as_ptr(), sheet.len(), out.as_mut_ptr(), out.len()) }
+}

@@ -1,0 +1,104 @@
+//! Each call once through the wrapper: that pointers, counts and returned structs meet the C calling convention.
+use desk::{event, read, start, test, valid, work, write, Entry, Head, Post, Verdict};
+
+const KINDS: [u32; 2] = [0, 1];
+
+/// The paper's events, stamped 1000k, and the answers that it lists.
+const LISTING: [[u32; 3]; 15] = [
+    [1, 0, 0],
+    [4, 0, 0],
+    [5, 0, 10],
+    [2, 0, 0],
+    [1, 0, 8],
+    [5, 0, 0],
+    [3, 1, 0],
+    [8, 0, 0],
+    [6, 1, 12],
+    [3, 1, 0],
+    [6, 1, 0],
+    [9, 0, 0],
+    [1, 0, 8],
+    [10, 0, 0],
+    [1, 0, 0],
+];
+
+fn stamped() -> impl Iterator<Item = (u32, [u32; 3])> {
+    (1000..).step_by(1000).zip(LISTING)
+}
+
+fn unanswered() -> Vec<Entry> {
+    stamped()
+        .map(|(stamp, [number, post, _])| [number, post, 31, stamp])
+        .collect()
+}
+
+fn is_last(row: &[Post]) -> bool {
+    let (up, down) = (row[0], row[1]);
+    [up.a, down.r, up.x, down.q, down.e, up.y, up.v, up.g] == [1, 1, 0, 1, 1, 1, 0, 1]
+}
+
+#[test]
+fn the_listing_event_by_event() {
+    let mut row = [Post::default(); 2];
+    let mut told = start(&mut row, &KINDS, 0);
+    assert_eq!(told.answer, 0);
+    for (stamp, [number, place, answer]) in stamped() {
+        told = event(&mut row, told.head, number, place, stamp);
+        assert_eq!(told.answer, answer);
+    }
+    assert!(valid(&row, told.head) && is_last(&row));
+    assert!(!valid(&row, Head { taken: 0, last: 0 }));
+}
+
+#[test]
+fn the_listing_as_a_sheet() {
+    let (mut sheet, mut out) = ([0; 1024], [7; 1025]);
+    assert_eq!(write(&KINDS, 0, &unanswered(), &mut sheet), 0);
+    assert_eq!(
+        test(&sheet),
+        Verdict {
+            number: 0,
+            block: 0
+        }
+    );
+    let worked = work(&sheet, &mut out);
+    assert_eq!((worked.number, worked.block), (0, 0));
+    assert!(is_last(worked.row.posts()));
+    assert_eq!(out[1024], 7);
+    let (mut kinds, mut events) = ([9; 3], [[9; 4]; 16]);
+    let found = read(&out[..1024], &mut kinds, &mut events);
+    assert_eq!(
+        (found.number, found.posts, found.stamp, found.events),
+        (0, 2, 0, 15)
+    );
+    assert_eq!(kinds, [0, 1, 9]);
+    for (entry, (stamp, [number, post, answer])) in events.iter().zip(stamped()) {
+        assert_eq!(*entry, [number, post, answer, stamp]);
+    }
+    assert_eq!(events[15], [9; 4]);
+}
+
+#[test]
+fn empty_slices() {
+    let told = start(&mut [], &[], 5);
+    assert_eq!((told.answer, told.head), (1, Head::default()));
+    assert!(!valid(&[], Head::default()));
+    assert_eq!(test(&[]).number, 18);
+    assert_eq!(work(&[], &mut []).number, 18);
+    assert_eq!(write(&KINDS, 0, &[], &mut []), 21);
+    assert_eq!(read(&[], &mut [], &mut []).number, 18);
+}
+
+#[test]
+fn a_bad_block_is_named() {
+    let mut sheet = [0; 1024];
+    write(&KINDS, 0, &unanswered(), &mut sheet);
+    sheet[600] ^= 1;
+    assert_eq!(
+        test(&sheet),
+        Verdict {
+            number: 19,
+            block: 1
+        }
+    );
+}

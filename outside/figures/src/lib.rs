@@ -1,0 +1,73 @@
+//! Plain Rust beside the ledger, for figures: the model's event with all its tests, the same event on a line that is
+//! not tested, the sum of a block, and the listing. The C program `figures` calls these and the ledger in one run.
+use model::{Head, Post, Told};
+use std::slice;
+
+/// # Safety
+/// `row` leads to `n` records that nothing else uses.
+#[no_mangle]
+pub unsafe extern "C" fn tested_event(
+    row: *mut Post,
+    n: usize,
+    head: Head,
+    number: u32,
+    place: u32,
+    stamp: u32,
+) -> Told {
+    model::event(
+        slice::from_raw_parts_mut(row, n),
+        head,
+        number,
+        place,
+        stamp,
+    )
+}
+
+/// # Safety
+/// As `tested_event`; the line may be used.
+#[no_mangle]
+pub unsafe extern "C" fn simple_event(
+    row: *mut Post,
+    n: usize,
+    head: Head,
+    number: u32,
+    place: u32,
+    stamp: u32,
+) -> Told {
+    model::event_on_valid(
+        slice::from_raw_parts_mut(row, n),
+        head,
+        number,
+        place,
+        stamp,
+    )
+}
+
+/// The sum of the words of a block, round 2^32.
+///
+/// # Safety
+/// `block` leads to 512 bytes.
+#[no_mangle]
+pub unsafe extern "C" fn plain_sum(block: *const u8) -> u32 {
+    slice::from_raw_parts(block, 512)
+        .chunks_exact(4)
+        .fold(0, |sum, w| {
+            sum.wrapping_add(u32::from_le_bytes([w[0], w[1], w[2], w[3]]))
+        })
+}
+
+/// The listing of a sheet, worked with all tests; how long it is.
+///
+/// # Safety
+/// `sheet` leads to `n` bytes and `page` to `room`.
+#[no_mangle]
+pub unsafe extern "C" fn plain_listing(
+    sheet: *const u8,
+    n: usize,
+    page: *mut u8,
+    room: usize,
+) -> usize {
+    let text = model::listing(slice::from_raw_parts(sheet, n));
+    slice::from_raw_parts_mut(page, room)[..text.len()].copy_from_slice(text.as_bytes());
+    text.len()
+}

@@ -1,0 +1,239 @@
+//! 01, Events, and the order of refusals under Numbers returned.
+
+use crate::line::relay::{AN, KPG, L, LEVER, RL, SIGNAL, W241, W314};
+use crate::line::{kind, valid, Head, Post, Told, COUNT_LIMIT};
+use crate::number::*;
+
+/// The ten events by their numbers.
+const REVERSE: u32 = 1;
+const TO_NORMAL: u32 = 2;
+const PASSAGE_PEDAL: u32 = 3;
+const SIGNAL_PEDAL: u32 = 4;
+const ANNOUNCE: u32 = 5;
+const RELEASE: u32 = 6;
+const GARAGE_RELEASE: u32 = 7;
+const ARRIVAL: u32 = 8;
+const LOSS: u32 = 9;
+const RESTORATION: u32 = 10;
+
+/// One event. Refused: row and head as they were. Taken: 1 more event taken, and
+/// the last stamp set.
+pub fn event(row: &mut [Post], head: Head, number: u32, place: u32, stamp: u32) -> Told {
+    if !valid(row, head) {
+        return Told {
+            answer: NOT_VALID,
+            head,
+        };
+    }
+    event_on_valid(row, head, number, place, stamp)
+}
+
+/// One event on a line that is valid.
+pub fn event_on_valid(row: &mut [Post], head: Head, number: u32, place: u32, stamp: u32) -> Told {
+    let answer = refusal(row, head, number, place, stamp);
+    if answer != TAKEN {
+        return Told { answer, head };
+    }
+    change(row, number, place as usize);
+    let head = Head {
+        taken: head.taken + 1,
+        last: stamp,
+    };
+    Told { answer, head }
+}
+
+/// "Order for an event: 1, 3, 2, 5, 4, 6, then the event's own list." From 3 on.
+fn refusal(row: &[Post], head: Head, number: u32, place: u32, stamp: u32) -> u32 {
+    if !(REVERSE..=RESTORATION).contains(&number) {
+        return NO_SUCH_EVENT;
+    }
+    if !place_exists(row.len(), number, place) {
+        return NO_SUCH_PLACE;
+    }
+    if head.taken == COUNT_LIMIT {
+        return FULL;
+    }
+    if behind(stamp, head.last) {
+        return BEHIND;
+    }
+    let place = place as usize;
+    if lacks_device(number, row[place].kind) {
+        return NO_DEVICE;
+    }
+    own_refusal(row, number, place)
+}
+
+/// For 8, 9 and 10 the place is a section, 0 to N-2; else a post, 0 to N-1.
+fn place_exists(posts: usize, number: u32, place: u32) -> bool {
+    let places = if number >= ARRIVAL { posts - 1 } else { posts };
+    (place as usize) < places
+}
+
+/// "A stamp is behind when its difference from the last, taken round 2^32 and
+/// read as a signed number, is below zero."
+fn behind(stamp: u32, last: u32) -> bool {
+    (stamp.wrapping_sub(last) as i32) < 0
+}
+
+/// "6 is given for 3 at kind 0; 4 at kinds 3 and 4; 5 at kind 1; 6 at kind 0; 7 at
+/// kinds 0, 1 and 4."
+fn lacks_device(number: u32, post_kind: u32) -> bool {
+    match number {
+        PASSAGE_PEDAL => post_kind == kind::ORIGIN,
+        SIGNAL_PEDAL => {
+            post_kind == kind::STATION_AT_ANNOUNCEMENT || post_kind == kind::INTERMEDIATE
+        }
+        ANNOUNCE => post_kind == kind::TERMINUS,
+        RELEASE => post_kind == kind::ORIGIN,
+        GARAGE_RELEASE => {
+            post_kind == kind::ORIGIN
+                || post_kind == kind::TERMINUS
+                || post_kind == kind::INTERMEDIATE
+        }
+        _ => false,
+    }
+}
+
+/// The event's own list of refusals; 0 when it is taken.
+fn own_refusal(row: &[Post], number: u32, place: usize) -> u32 {
+    let post = &row[place];
+    match number {
+        REVERSE => reverse_refusal(post),
+        TO_NORMAL => first([(!post.is_up(LEVER), LEVER_THERE)]),
+        ANNOUNCE => first([
+            (!post.is_up(RL), RL_DOWN),
+            (post.is_up(LEVER), LEVER_REVERSED),
+        ]),
+        RELEASE => release_refusal(post),
+        GARAGE_RELEASE => garage_refusal(post),
+        ARRIVAL | LOSS => first([(!under_way(post), NOTHING_UNDER_WAY)]),
+        RESTORATION => first([
+            (post.is_up(RL), SECTION_FREE),
+            (under_way(post), UNDER_WAY),
+            (row[place + 1].is_up(AN), RECORDED),
+        ]),
+        _ => TAKEN,
+    }
+}
+
+/// The number of the first refusal that holds, 0 if none does.
+fn first<const K: usize>(list: [(bool, u32); K]) -> u32 {
+    list.iter()
+        .find(|(holds, _)| *holds)
+        .map_or(TAKEN, |&(_, number)| number)
+}
+
+/// 1: "Refused 7 if already reversed, then 8 if L is down (8 not at the terminus)."
+fn reverse_refusal(post: &Post) -> u32 {
+    first([
+        (post.is_up(LEVER), LEVER_THERE),
+        (post.kind != kind::TERMINUS && !post.is_up(L), LEVER_LOCKED),
+    ])
+}
+
+/// 6: "refused 11 if An is down, then 12 if KPg is down, then 13 if RL is up
+/// (kinds 2, 3, 4) or 10 if the lever is reversed (kind 1)."
+fn release_refusal(post: &Post) -> u32 {
+    let terminus = post.kind == kind::TERMINUS;
+    first([
+        (!post.is_up(AN), NO_ANNOUNCEMENT),
+        (!post.is_up(KPG), NO_PASSAGE),
+        (!terminus && post.is_up(RL), RL_UP_ONWARD),
+        (terminus && post.is_up(LEVER), LEVER_REVERSED),
+    ])
+}
+
+/// 7: "refused 11, then 12, as above and on nothing else."
+fn garage_refusal(post: &Post) -> u32 {
+    first([
+        (!post.is_up(AN), NO_ANNOUNCEMENT),
+        (!post.is_up(KPG), NO_PASSAGE),
+    ])
+}
+
+/// A signal is under way in the section downstream of this post.
+fn under_way(post: &Post) -> bool {
+    post.is_up(W314) || post.is_up(W241)
+}
+
+/// What an event taken alters: at most its post and one neighbour.
+fn change(row: &mut [Post], number: u32, place: usize) {
+    match number {
+        REVERSE => row[place].raise(LEVER | SIGNAL),
+        TO_NORMAL => row[place].drop(LEVER | SIGNAL),
+        PASSAGE_PEDAL => strike_passage(&mut row[place]),
+        SIGNAL_PEDAL => strike_signal(&mut row[place]),
+        ANNOUNCE => announce(&mut row[place]),
+        RELEASE => release(row, place),
+        GARAGE_RELEASE => {
+            release(row, place);
+            row[place].c += 1;
+        }
+        ARRIVAL => arrive(row, place),
+        LOSS => lose(&mut row[place]),
+        RESTORATION => {
+            row[place].raise(L | RL);
+            row[place].g += 1;
+        }
+        _ => {}
+    }
+}
+
+/// 3: "if An is up and KPg down, KPg rises and q grows by 1. Otherwise taken with
+/// no effect."
+fn strike_passage(post: &mut Post) {
+    if post.is_up(AN) && !post.is_up(KPG) {
+        post.raise(KPG);
+        post.q += 1;
+    }
+}
+
+/// 4: "if the lever is reversed, the signal closes, and at kinds 0 and 2 L drops.
+/// With a normal lever, taken with no effect."
+fn strike_signal(post: &mut Post) {
+    if post.is_up(LEVER) {
+        post.drop(SIGNAL);
+        if post.kind == kind::ORIGIN || post.kind == kind::STATION_AT_PEDAL {
+            post.drop(L);
+        }
+    }
+}
+
+/// 5: "RL and L drop, W314 rises, a grows by 1."
+fn announce(post: &mut Post) {
+    post.drop(RL | L);
+    post.raise(W314);
+    post.a += 1;
+}
+
+/// 6: "An and KPg drop, W241 of the section upstream rises, e grows by 1."
+fn release(row: &mut [Post], place: usize) {
+    row[place].drop(AN | KPG);
+    row[place].e += 1;
+    row[place - 1].raise(W241);
+}
+
+/// 8: "W314: it drops, An downstream rises, r grows by 1. W241: it drops, L and RL
+/// rise, v grows by 1."
+fn arrive(row: &mut [Post], section: usize) {
+    if row[section].is_up(W314) {
+        row[section].drop(W314);
+        row[section + 1].raise(AN);
+        row[section + 1].r += 1;
+    } else {
+        row[section].drop(W241);
+        row[section].raise(L | RL);
+        row[section].v += 1;
+    }
+}
+
+/// 9: "The signal under way drops; x or y grows by 1."
+fn lose(post: &mut Post) {
+    if post.is_up(W314) {
+        post.drop(W314);
+        post.x += 1;
+    } else {
+        post.drop(W241);
+        post.y += 1;
+    }
+}

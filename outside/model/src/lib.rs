@@ -1,0 +1,45 @@
+//! An outside model of the block desk, written from 01-scope.md alone.
+//!
+//! It says what the paper says, in the paper's order, in the plainest way.
+//! "01, X" in a comment names the part X of the paper.
+
+mod events;
+mod line;
+mod listing;
+mod sheet;
+mod working;
+
+pub use events::{event, event_on_valid};
+pub use line::{kinds_right, relay, start, valid, Head, Post, Told, COUNT_LIMIT};
+pub use listing::listing;
+pub use sheet::{
+    read, renew_check, write, Entry, Found, BLOCK_BYTES, CHECK, EVENTS_PER_BLOCK, MOST_BLOCKS,
+    MOST_EVENTS, UNANSWERED,
+};
+pub use working::{work, Worked};
+
+/// 01, Numbers returned.
+pub mod number {
+    pub const TAKEN: u32 = 0;
+    pub const NOT_VALID: u32 = 1;
+    pub const NO_SUCH_PLACE: u32 = 2;
+    pub const NO_SUCH_EVENT: u32 = 3;
+    pub const BEHIND: u32 = 4;
+    pub const FULL: u32 = 5;
+    pub const NO_DEVICE: u32 = 6;
+    pub const LEVER_THERE: u32 = 7;
+    pub const LEVER_LOCKED: u32 = 8;
+    pub const RL_DOWN: u32 = 9;
+    pub const LEVER_REVERSED: u32 = 10;
+    pub const NO_ANNOUNCEMENT: u32 = 11;
+    pub const NO_PASSAGE: u32 = 12;
+    pub const RL_UP_ONWARD: u32 = 13;
+    pub const NOTHING_UNDER_WAY: u32 = 14;
+    pub const SECTION_FREE: u32 = 15;
+    pub const UNDER_WAY: u32 = 16;
+    pub const RECORDED: u32 = 17;
+    pub const LENGTH: u32 = 18;
+    pub const CHECK_WRONG: u32 = 19;
+    pub const CONTENTS: u32 = 20;
+    pub const TOO_SHORT: u32 = 21;
+}

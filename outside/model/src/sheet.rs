@@ -1,0 +1,238 @@
+//! 01, The event sheet: layout, reading, writing.
+
+use crate::line::kinds_right;
+use crate::number::*;
+
+pub const BLOCK_BYTES: usize = 512;
+pub const MOST_BLOCKS: usize = 64;
+pub const EVENTS_PER_BLOCK: usize = 60;
+/// 63 blocks of 60 events follow the block 0.
+pub const MOST_EVENTS: usize = 3_780;
+/// The sum of block 0's words; a later block's is its number more.
+pub const CHECK: u32 = 317_944;
+/// "Answer 31 means not yet answered."
+pub const UNANSWERED: u32 = 31;
+
+const WORDS: usize = 128;
+const CHECK_WORD: usize = 127;
+
+/// An event of a sheet: event number, post, answer, stamp.
+pub type Entry = [u32; 4];
+
+type Block = [u32; WORDS];
+
+/// What a reading returns. A refusal: its number and block, and zeros.
+#[derive(Clone, Copy, Debug, Default, PartialEq, Eq)]
+pub struct Found {
+    pub number: u32,
+    pub block: u32,
+    pub posts: u32,
+    pub stamp: u32,
+    pub events: u32,
+}
+
+/// A good sheet's table, start stamp and events with their answers.
+pub(crate) struct Contents {
+    pub kinds: Vec<u32>,
+    pub stamp: u32,
+    pub events: Vec<Entry>,
+}
+
+/// The number and the block of a refusal.
+pub(crate) struct Refused {
+    pub number: u32,
+    pub block: u32,
+}
+
+/// Good: the fronts of both rooms are filled, the rest stays. Refused: both stay.
+pub fn read(sheet: &[u8], kinds: &mut [u32], events: &mut [Entry]) -> Found {
+    let refusal = |number, block| Found {
+        number,
+        block,
+        ..Found::default()
+    };
+    let contents = match contents(sheet) {
+        Ok(contents) => contents,
+        Err(refused) => return refusal(refused.number, refused.block),
+    };
+    let (posts, count) = (contents.kinds.len(), contents.events.len());
+    // "room too short for them gives 21, last"
+    if kinds.len() < posts || events.len() < count {
+        return refusal(TOO_SHORT, 0);
+    }
+    kinds[..posts].copy_from_slice(&contents.kinds);
+    events[..count].copy_from_slice(&contents.events);
+    Found {
+        number: TAKEN,
+        block: 0,
+        posts: posts as u32,
+        stamp: contents.stamp,
+        events: count as u32,
+    }
+}
+
+/// "Reading tests the length (18), then each block in turn, check before contents,
+/// and stops at once at the first bad block, naming it."
+pub(crate) fn contents(sheet: &[u8]) -> Result<Contents, Refused> {
+    let blocks = sheet.len() / BLOCK_BYTES;
+    if !sheet.len().is_multiple_of(BLOCK_BYTES) || !(1..=MOST_BLOCKS).contains(&blocks) {
+        return Err(Refused {
+            number: LENGTH,
+            block: 0,
+        });
+    }
+    let mut found = Contents {
+        kinds: Vec::new(),
+        stamp: 0,
+        events: Vec::new(),
+    };
+    for (at, bytes) in sheet.chunks(BLOCK_BYTES).enumerate() {
+        let block = words(bytes);
+        let refused = |number| Refused {
+            number,
+            block: at as u32,
+        };
+        if sum(&block) != CHECK.wrapping_add(at as u32) {
+            return Err(refused(CHECK_WRONG));
+        }
+        let right = if at == 0 {
+            read_table(&block, &mut found)
+        } else {
+            read_events(&block, at == blocks - 1, &mut found)
+        };
+        if !right {
+            return Err(refused(CONTENTS));
+        }
+    }
+    Ok(found)
+}
+
+/// Block 0: "word 0 is 1, word 1 is N, word 2 the start stamp, words 3 onward the N
+/// kinds; the rest up to word 126 are zero", and N and the kinds are such as
+/// starting would not refuse. False when it departs from this.
+fn read_table(block: &Block, found: &mut Contents) -> bool {
+    if block[0] != 1 || !(2..=32).contains(&block[1]) {
+        return false;
+    }
+    let end = 3 + block[1] as usize;
+    found.stamp = block[2];
+    found.kinds = block[3..end].to_vec();
+    kinds_right(&found.kinds) && all_zero(&block[end..CHECK_WORD])
+}
+
+/// A later block: "word 0 is the number m of events, 1 to 60; event j (from 0) has
+/// its word at 1+2j and its stamp at 2+2j; the rest up to word 126 are zero. All
+/// but the last of these hold 60." False when it departs from this.
+fn read_events(block: &Block, is_last: bool, found: &mut Contents) -> bool {
+    let most = EVENTS_PER_BLOCK as u32;
+    let m = block[0];
+    if !(1..=most).contains(&m) || (!is_last && m != most) {
+        return false;
+    }
+    for j in 0..m as usize {
+        let word = block[1 + 2 * j];
+        // "bits 16 to 31 are zero"
+        if word >> 16 != 0 {
+            return false;
+        }
+        let [number, post, answer] = unpack(word);
+        found.events.push([number, post, answer, block[2 + 2 * j]]);
+    }
+    all_zero(&block[1 + 2 * m as usize..CHECK_WORD])
+}
+
+/// "The event number in bits 0 to 4, post in bits 5 to 10, answer in bits 11 to 15."
+fn unpack(word: u32) -> [u32; 3] {
+    [word & 31, (word >> 5) & 63, (word >> 11) & 31]
+}
+
+fn pack(number: u32, post: u32, answer: u32) -> u32 {
+    number | post << 5 | answer << 11
+}
+
+fn in_its_field(entry: &Entry) -> bool {
+    entry[0] < 32 && entry[1] < 64 && entry[2] < 32
+}
+
+fn all_zero(words: &[u32]) -> bool {
+    words.iter().all(|&word| word == 0)
+}
+
+/// "Writing tests 1, 20, 18, 21 in that order, and a refused write returns the
+/// number alone; bytes past the sheet stay as they were."
+pub fn write(kinds: &[u32], stamp: u32, events: &[Entry], out: &mut [u8]) -> u32 {
+    if !kinds_right(kinds) {
+        return NOT_VALID;
+    }
+    if !events.iter().all(in_its_field) {
+        return CONTENTS;
+    }
+    if events.len() > MOST_EVENTS {
+        return LENGTH;
+    }
+    let mut blocks = vec![table_block(kinds, stamp)];
+    blocks.extend(events.chunks(EVENTS_PER_BLOCK).map(events_block));
+    let length = blocks.len() * BLOCK_BYTES;
+    if out.len() < length {
+        return TOO_SHORT;
+    }
+    for (at, block) in blocks.iter_mut().enumerate() {
+        set_check(block, at as u32);
+        put_words(block, &mut out[at * BLOCK_BYTES..][..BLOCK_BYTES]);
+    }
+    TAKEN
+}
+
+fn table_block(kinds: &[u32], stamp: u32) -> Block {
+    let mut block = [0; WORDS];
+    block[0] = 1;
+    block[1] = kinds.len() as u32;
+    block[2] = stamp;
+    block[3..3 + kinds.len()].copy_from_slice(kinds);
+    block
+}
+
+fn events_block(events: &[Entry]) -> Block {
+    let mut block = [0; WORDS];
+    block[0] = events.len() as u32;
+    for (j, &[number, post, answer, stamp]) in events.iter().enumerate() {
+        block[1 + 2 * j] = pack(number, post, answer);
+        block[2 + 2 * j] = stamp;
+    }
+    block
+}
+
+/// "The sum of its 128 words, carried round at 2^32."
+fn sum(block: &[u32]) -> u32 {
+    block
+        .iter()
+        .fold(0, |total: u32, &word| total.wrapping_add(word))
+}
+
+/// "... is 317944 plus the block's number; word 127 is set so."
+fn set_check(block: &mut Block, number: u32) {
+    let others = sum(&block[..CHECK_WORD]);
+    block[CHECK_WORD] = CHECK.wrapping_add(number).wrapping_sub(others);
+}
+
+/// Sets the check word of one block given as its bytes, whatever it contains.
+pub fn renew_check(bytes: &mut [u8], number: u32) {
+    let mut block = words(bytes);
+    set_check(&mut block, number);
+    put_words(&block, bytes);
+}
+
+/// "A block is 128 little-endian 32-bit words."
+fn words(bytes: &[u8]) -> Block {
+    let mut block = [0; WORDS];
+    for (word, four) in block.iter_mut().zip(bytes.chunks_exact(4)) {
+        *word = u32::from_le_bytes([four[0], four[1], four[2], four[3]]);
+    }
+    block
+}
+
+fn put_words(block: &Block, bytes: &mut [u8]) {
+    for (word, four) in block.iter().zip(bytes.chunks_exact_mut(4)) {
+        four.copy_from_slice(&word.to_le_bytes());
+    }
+}

@@ -1,0 +1,57 @@
+//! 01, The event sheet, its last sentence: working a sheet.
+
+use crate::events::event;
+use crate::line::{start, Head, Post};
+use crate::number::{CONTENTS, TAKEN, TOO_SHORT};
+use crate::sheet::{contents, write, EVENTS_PER_BLOCK, UNANSWERED};
+
+/// What a working returns, beside the output. A refusal: its number and block, an
+/// empty row and a head of zeros.
+#[derive(Clone, Debug, Default, PartialEq, Eq)]
+pub struct Worked {
+    pub number: u32,
+    pub block: u32,
+    pub row: Vec<Post>,
+    pub head: Head,
+}
+
+fn refusal(number: u32, block: u32) -> Worked {
+    Worked {
+        number,
+        block,
+        ..Worked::default()
+    }
+}
+
+/// "Working a sheet reads it whole first, refuses 20 at the first block with an
+/// answer other than 31, needs an output at least as long as the sheet (else 21),
+/// then writes the same sheet with answers filled and checks renewed, and changes
+/// nothing else."
+pub fn work(sheet: &[u8], out: &mut [u8]) -> Worked {
+    let mut found = match contents(sheet) {
+        Ok(found) => found,
+        Err(refused) => return refusal(refused.number, refused.block),
+    };
+    if let Some(at) = found.events.iter().position(|e| e[2] != UNANSWERED) {
+        // Block 0 is the table; every later block but the last holds 60 events.
+        return refusal(CONTENTS, (1 + at / EVENTS_PER_BLOCK) as u32);
+    }
+    if out.len() < sheet.len() {
+        return refusal(TOO_SHORT, 0);
+    }
+    let mut row = vec![Post::default(); found.kinds.len()];
+    let mut head = start(&mut row, &found.kinds, found.stamp).head;
+    for entry in &mut found.events {
+        let told = event(&mut row, head, entry[0], entry[1], entry[3]);
+        entry[2] = told.answer;
+        head = told.head;
+    }
+    let number = write(&found.kinds, found.stamp, &found.events, out);
+    assert_eq!(number, TAKEN, "a sheet that was read can be written");
+    Worked {
+        number,
+        block: 0,
+        row,
+        head,
+    }
+}

@@ -1,0 +1,121 @@
+/*
+ * The ledger beside plain Rust that does the same, for time and for counts of instructions.
+ *     figures WHAT ROUNDS < sheet
+ * WHAT is one of
+ *     ledger, tested, simple   the sheet's events, one by one: desk_event; the Rust model's event with all its tests;
+ *                              the same on a line that is not tested
+ *     check, sum, copy         desk_test; a plain Rust sum of each block; memcpy of the sheet
+ *     work, listing            desk_work; the Rust model's listing
+ * Prints how long the rounds took, their number, and a number made of the results of one round: it is the same for
+ * ledger, tested and simple.
+ */
+#include <stdio.h>
+#include <stdlib.h>
+#include <string.h>
+#include <time.h>
+
+#include "desk.h"
+
+typedef struct desk_told event_call(struct desk_post *, size_t, struct desk_head, uint32_t, uint32_t, uint32_t);
+event_call tested_event, simple_event;
+uint32_t plain_sum(const uint8_t *block);
+size_t plain_listing(const uint8_t *sheet, size_t n, uint8_t *page, size_t room);
+
+static uint8_t input[1 << 16];
+static size_t input_bytes;
+static uint32_t kinds[DESK_POSTS];
+static desk_entry entries[DESK_EVENTS];
+static struct desk_found found;
+static uint8_t page[1 << 17];
+
+static _Noreturn void fail(const char *why)
+{
+    fprintf(stderr, "figures: %s\n", why);
+    exit(1);
+}
+
+/* One round of events from the fresh line: answers and records, folded into one number. */
+static uint32_t play(event_call *event)
+{
+    static struct desk_post row[DESK_POSTS];
+    struct desk_told told = desk_start(row, found.posts, kinds, found.posts, found.stamp);
+    uint32_t fold = told.answer;
+
+    for (uint32_t i = 0; i < found.events; i++) {
+        told = event(row, found.posts, told.head, entries[i][0], entries[i][1], entries[i][3]);
+        fold = fold * 31 + told.answer;
+    }
+    for (uint32_t i = 0; i < found.posts; i++)
+        fold = fold * 31 + (row[i].word ^ row[i].a ^ row[i].q << 8);
+    return fold;
+}
+
+static uint32_t sums(void)
+{
+    uint32_t bad = 0;
+
+    for (size_t b = 0; b < input_bytes / DESK_BLOCK; b++)
+        bad += plain_sum(input + b * DESK_BLOCK) != 317944 + b;
+    return bad;
+}
+
+static uint32_t copy(void)
+{
+    memcpy(page, input, input_bytes);
+    return page[input_bytes / 2];
+}
+
+static uint32_t worked(void)
+{
+    struct desk_worked done = desk_work(input, input_bytes, page, sizeof page);
+
+    return done.number;
+}
+
+static uint32_t listed(void)
+{
+    return (uint32_t)plain_listing(input, input_bytes, page, sizeof page);
+}
+
+static uint32_t round_of(const char *what)
+{
+    if (strcmp(what, "ledger") == 0)
+        return play(desk_event);
+    if (strcmp(what, "tested") == 0)
+        return play(tested_event);
+    if (strcmp(what, "simple") == 0)
+        return play(simple_event);
+    if (strcmp(what, "check") == 0)
+        return desk_test(input, input_bytes).number;
+    if (strcmp(what, "sum") == 0)
+        return sums();
+    if (strcmp(what, "copy") == 0)
+        return copy();
+    if (strcmp(what, "work") == 0)
+        return worked();
+    if (strcmp(what, "listing") == 0)
+        return listed();
+    fail("no such figure");
+}
+
+int main(int count, char **args)
+{
+    struct timespec from, to;
+    uint32_t result = 0;
+    long rounds;
+
+    if (count != 3)
+        fail("usage: figures WHAT ROUNDS");
+    rounds = atol(args[2]);
+    input_bytes = fread(input, 1, sizeof input, stdin);
+    found = desk_read(input, input_bytes, kinds, DESK_POSTS, entries, DESK_EVENTS);
+    if (found.number != 0)
+        fail("the input is no sheet");
+    clock_gettime(CLOCK_MONOTONIC, &from);
+    for (long i = 0; i < rounds; i++)
+        result = round_of(args[1]);
+    clock_gettime(CLOCK_MONOTONIC, &to);
+    printf("%s %.9f s %ld rounds, %u\n", args[1],
+           (double)(to.tv_sec - from.tv_sec) + 1e-9 * (double)(to.tv_nsec - from.tv_nsec), rounds, result);
+    return 0;
+}
