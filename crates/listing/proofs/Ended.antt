@@ -1,11 +1,10 @@
 -- A line of the listing: how long it is at most, and the word "refused" a byte at a time.
 -- Assumes nothing.
 use Prim.Native.Nat.{ℕ, _+_, _*_, _≤_}
-use mathlib.Core.Path.{_≡_, refl}
+use mathlib.Core.Path.{_≡_}
 use mathlib.Core.List.{List, [], _∷_}
 use native.Mathlib.Omega.{arith}
 use lib.ListN.{length, set, length-append}
-use Rattle.listing.specs.Digits.{digits}
 use Rattle.listing.specs.Lines.{ended, eventLine, sectionLine}
 use Rattle.listing.specs.Texts.{stored}
 use Rattle.listing.proofs.Value.{digits-long}

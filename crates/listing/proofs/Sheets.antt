@@ -1,12 +1,12 @@
 -- The sheet behind a listing: what working it into 32,768 bytes tells of its listing, and what reading those bytes again gives.
 -- Assumes nothing.
 use Prim.Native.Nat.{ℕ, _+_, _≤_}
-use mathlib.Core.Path.{_≡_, refl, sym, ap, subst, _∙_}
+use mathlib.Core.Path.{_≡_, refl, sym, ap, _∙_}
 use mathlib.Core.Bool.{true, false}
-use mathlib.Core.List.{List, [], _++_}
+use mathlib.Core.List.{List, _++_}
 use native.Mathlib.Omega.{arith}
 use borrow.Author.Tests.{eqb-true, eqb-false, le-leb}
-use lib.Dec.{eqb, leb}
+use lib.Dec.{eqb}
 use lib.ListN.{length, take, drop, length-append}
 use lib.Seq.{take-at}
 use Rattle.relay.proofs.Fresh.{length-fresh}
@@ -20,7 +20,6 @@ use Rattle.sheet.proofs.Trips.{written-accepted, written-read}
 use Rattle.sheet.specs.Reading.{accepted, verdictOf, decode, found, Reads}
 use Rattle.sheet.specs.Sheet.{Sheet, encode}
 use Rattle.sheet.specs.declared.Found.{Found}
-use Rattle.sheet.specs.declared.Verdict.{Verdict}
 use Rattle.working.proofs.Steps.{run-long}
 use Rattle.working.proofs.Twice.{worked-writable, same-length}
 use Rattle.working.proofs.Works.{no, said-table}

@@ -9,7 +9,7 @@ ghost use Rattle.listing.specs.Texts.{Put};
 use row::Row;
 
 // Room for any listing: 128 bytes for each of 3,780 events and 31 sections.
-pub const PAGE: usize = 487808;
+pub const PAGE: usize = (3780 + 31) * 128;
 
 // The digits of `n` from `at` on; the place past them.
 fn put_number(out: &mut [u8], at: usize, n: u32) -> usize

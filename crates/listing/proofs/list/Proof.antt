@@ -1,18 +1,16 @@
 -- `listing::list` meets its contract: a refusal is the one line; else the worked sheet is read again, the lines of its events stand first and those of the sections after them.
 -- Assumes nothing.
-use Prim.Native.Nat.{ℕ, _+_, _*_, _≤_}
-use mathlib.Core.Path.{_≡_, refl, sym, ap, _∙_}
-use mathlib.Core.List.{List, _++_}
+use Prim.Native.Nat.{_+_, _≤_}
+use mathlib.Core.Path.{_≡_, sym, _∙_}
 use native.Mathlib.Omega.{arith}
 use borrow.Author.Needs.{needs}
-use lib.ListN.{length, take, drop, length-append}
-use lib.Seq.{length-take-le, take-at}
+use lib.ListN.{length, take}
+use lib.Seq.{length-take-le}
 use Rattle.row.proofs.Held.{held-line}
-use Rattle.row.specs.Row.{lineOf, rowOf}
+use Rattle.row.specs.Row.{lineOf}
 use Rattle.sheet.proofs.Bytes.{Below}
 use Rattle.sheet.proofs.Rooms.{not-long}
-use Rattle.sheet.specs.Reading.{decode, Reads}
-use Rattle.sheet.specs.Sheet.{encode}
+use Rattle.sheet.specs.Reading.{decode}
 use Rattle.working.specs.Working.{worked}
 use Rattle.listing.specs.Listing.{eventLines, sectionLines, lineAfter, listingOf}
 use Rattle.listing.specs.Texts.{stored}

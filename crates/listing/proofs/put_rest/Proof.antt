@@ -1,16 +1,14 @@
 -- `listing::put_rest` meets its contract: the numbers so far stand, each after a space; the line feed comes last.
 -- Assumes nothing.
-use Prim.Native.Nat.{ℕ, _+_, _-_, _*_, _≤_, _<_}
+use Prim.Native.Nat.{ℕ, _+_, _-_, _*_, _≤_}
 use mathlib.Core.Path.{_≡_, refl, sym, ap, _∙_}
-use mathlib.Core.List.{List, [], _∷_, _++_}
+use mathlib.Core.List.{List}
 use native.Mathlib.Omega.{arith}
 use borrow.Author.Needs.{needs}
-use lib.ListN.{length, getD, take, length-append, length-set}
+use lib.ListN.{length, take, length-append, length-set}
 use lib.Seq.{take-all}
-use Rattle.listing.specs.Digits.{digits}
-use Rattle.listing.specs.Lines.{space, spaced, lineFeed}
+use Rattle.listing.specs.Lines.{spaced, lineFeed}
 use Rattle.listing.specs.Texts.{stored}
-use Rattle.listing.proofs.Value.{digits-long}
 use Rattle.listing.proofs.Stores.{stored-none, stored-more, length-stored}
 use Rattle.listing.proofs.Spaces.{spaced-none, turn, turn-long, turn-short}
 use Rattle.listing.proofs.put_rest.Statement.{statement}

@@ -1,17 +1,14 @@
 -- `listing::put_sections` meets its contract: the lines of the sections so far stand from `at` on.
 -- Assumes nothing.
 use Prim.Native.Nat.{_+_, _-_, _*_, _≤_, _<_}
-use mathlib.Core.Path.{_≡_, refl, sym, ap, _∙_}
-use mathlib.Core.List.{List}
+use mathlib.Core.Path.{_≡_, refl, sym, _∙_}
 use native.Mathlib.Omega.{arith}
 use borrow.Author.Needs.{needs}
 use lib.ListN.{length, take, length-map}
 use lib.Seq.{take-all, length-take-le}
 use Rattle.relay.specs.Posts.{at}
-use Rattle.row.specs.Row.{lineOf}
 use Rattle.row.proofs.Part.{line-is, at-part}
 use Rattle.working.specs.Working.{sectionNumbers}
-use Rattle.listing.specs.Lines.{sectionLine}
 use Rattle.listing.specs.Listing.{sectionLines}
 use Rattle.listing.specs.Texts.{stored}
 use Rattle.listing.proofs.Listed.{lineOfSection, sections-first, sections-more, line-long}
