@@ -59,14 +59,15 @@ sections-snoc k (x ∷ y ∷ ps) p d =
     ap (λ (l : List ℕ). lineOfSection k x y ++ l) (sections-snoc (suc k) (y ∷ ps) p d ∙ ap (λ (j : ℕ). sectionLines (suc k) (y ∷ (ps ++ (p ∷ []))) ++ lineOfSection j p d) z)
     ∙ sym (append-assoc (lineOfSection k x y) (sectionLines (suc k) (y ∷ (ps ++ (p ∷ [])))) (lineOfSection (k + suc (suc (length ps))) p d))
 
--- the first i + 1 posts have i sections; one post more is section i more
-pub sections-more : (ps : List Post) (i : ℕ) → i + 1 < length ps → sectionLines 0 (take (i + 1 + 1) ps) ≡ sectionLines 0 (take (i + 1) ps) ++ lineOfSection i (at ps i) (at ps (i + 1))
-sections-more ps i h =
+-- the first j = i + 1 posts have i sections; one post more is section i more
+pub sections-more : (ps : List Post) (i j : ℕ) → j ≡ i + 1 → j < length ps → sectionLines 0 (take (j + 1) ps) ≡ sectionLines 0 (take j ps) ++ lineOfSection i (at ps i) (at ps j)
+sections-more ps i j e h =
     let z : 0 + length (take i ps) ≡ i = omega (arith, length-take-le i ps (omega arith)) in
-    rw (add-one (i + 1), add-one i, take-suc ps (suc i) blank (omega arith), take-suc ps i blank (omega arith), append-assoc)
-    (sections-snoc 0 (take i ps) (at ps i) (at ps (suc i)) ∙ ap (λ (j : ℕ). sectionLines 0 (take i ps ++ (at ps i ∷ [])) ++ lineOfSection j (at ps i) (at ps (suc i))) z)
+    let k : j ≡ suc i = omega arith in
+    rw (add-one j, take-suc ps j blank h, k, take-suc ps i blank (omega arith), append-assoc)
+    (sections-snoc 0 (take i ps) (at ps i) (at ps (suc i)) ∙ ap (λ (n : ℕ). sectionLines 0 (take i ps ++ (at ps i ∷ [])) ++ lineOfSection n (at ps i) (at ps (suc i))) z)
 
-pub sections-first : (ps : List Post) → sectionLines 0 (take (0 + 1) ps) ≡ []
+pub sections-first : (ps : List Post) → sectionLines 0 (take 1 ps) ≡ []
 unfolding sectionLines
 sections-first [] = refl
 sections-first (p ∷ ps) = refl

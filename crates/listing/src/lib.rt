@@ -80,12 +80,15 @@ fn put_events(out: &mut [u8], events: &[[u32; 4]]) -> usize
     requires { ⌜ (length (now events) ≤ 3780) × (length (now events) * 128 ≤ length (now out)) ⌝ }
     ensures { λ r. ⌜ Lined (eventLines 1 (now (events .entry))) r (now (out .entry)) (now (out .exit)) ⌝ }
 {
+    let n = events.len() as u32;
     let mut p: usize = 0;
     let mut i: usize = 0;
-    while i < events.len() {
+    let mut position: u32 = 1;
+    while position <= n {
         let e = events[i];
-        p = put_event(out, p, i as u32 + 1, e[0], e[1], e[2]);
+        p = put_event(out, p, position, e[0], e[1], e[2]);
         i += 1;
+        position += 1;
     }
     p
 }
@@ -99,10 +102,12 @@ fn put_sections(out: &mut [u8], at: usize, row: Row) -> usize
     let n = row.n;
     let mut p = at;
     let mut i: usize = 0;
-    while i + 1 < n {
-        let numbers = working::section(i as u32, posts[i], posts[i + 1]);
+    let mut j: usize = 1;
+    while j < n {
+        let numbers = working::section(i as u32, posts[i], posts[j]);
         p = put_section(out, p, numbers);
-        i += 1;
+        i = j;
+        j += 1;
     }
     p
 }

@@ -17,30 +17,28 @@ use Rattle.listing.proofs.put_events.Statement.{statement}
 use Rattle.listing.proofs.put_events.Tie as tie
 
 abbrev Inv-loop : tie.InvT-loop
-Inv-loop out₀ events p₀ i₀ out p i =
+Inv-loop out₀ events n p₀ i₀ position₀ out p i position =
     (i ≤ length events)
     × (p ≡ 0 + length (eventLines 1 (take i events)))
     × (p ≤ i * 128)
     × (length out ≡ length out₀)
     × (out ≡ stored out₀ 0 (eventLines 1 (take i events)))
+    × (position ≡ 1 + i)
 
 abbrev μ-loop : tie.MeasureT-loop
-μ-loop out₀ events p₀ i₀ out p i = length events - i
+μ-loop out₀ events n p₀ i₀ position₀ out p i position = length events - i
+
+cast-n : tie.Need-cast-n Inv-loop μ-loop
+cast-n c = search needs
 
 loop-holds : tie.Need-loop-holds Inv-loop μ-loop
-loop-holds c = rw events-none (omega arith, refl, omega arith, refl, sym (stored-none _ _))
+loop-holds c = rw events-none (omega arith, refl, omega arith, refl, sym (stored-none _ _), refl)
 
 mul-e : tie.Need-mul-e Inv-loop μ-loop
 mul-e c = search needs
 
 shared-slice-copy-out-e : tie.Need-shared-slice-copy-out-e Inv-loop μ-loop
 shared-slice-copy-out-e c = search needs
-
-cast-put-event : tie.Need-cast-put-event Inv-loop μ-loop
-cast-put-event c = search needs
-
-add-put-event : tie.Need-add-put-event Inv-loop μ-loop
-add-put-event c = search needs
 
 array-read-put-event : tie.Need-array-read-put-event Inv-loop μ-loop
 array-read-put-event c = search needs
@@ -57,6 +55,9 @@ put-event-requires c κs = search needs
 add-i : tie.Need-add-i Inv-loop μ-loop
 add-i c = search needs
 
+add-position : tie.Need-add-position Inv-loop μ-loop
+add-position c = search needs
+
 loop-less : tie.Need-loop-less Inv-loop μ-loop
 loop-less c = search needs
 
@@ -65,16 +66,18 @@ loop-again c =
     let l = c .before .before .before .before .before .before in
     let a = l .before .before .args in
     let i = l .loop .i in
+    let k = l .loop .position in
     let e = getD (a .events .now) i [] in
     let r = c .before .before .put-event .ensures in
-    let few = event-long (i + 1) (numberOf e) (postOf e) (answerOf e) in
-    let more = events-more 1 (a .events .now) i (i + 1) (omega arith) (omega arith) in
-    let fits : l .loop .p + length (lineOfEvent (i + 1) e) ≤ length (a .out .now) = omega arith in (
+    let few = event-long k (numberOf e) (postOf e) (answerOf e) in
+    let more = events-more 1 (a .events .now) i k (omega arith) (l .loop .inv .5) in
+    let fits : l .loop .p + length (lineOfEvent k e) ≤ length (a .out .now) = omega arith in (
       omega arith,
       r .0 ∙ next-place (a .out .now) (l .loop .out) _ _ _ 0 (l .loop .p) (l .loop .inv .4) (l .loop .inv .1) more fits,
       omega (arith, r .0),
       search needs,
       r .1 ∙ next-stands (a .out .now) (l .loop .out) _ _ _ 0 (l .loop .p) (l .loop .inv .4) (l .loop .inv .1) more fits,
+      omega arith,
     )
 
 same-length : tie.Need-same-length Inv-loop μ-loop
@@ -93,16 +96,16 @@ put-events-spec =
     (tie.spec
     Inv-loop
     μ-loop
+    cast-n
     loop-holds
     mul-e
     shared-slice-copy-out-e
-    cast-put-event
-    add-put-event
     array-read-put-event
     array-read-put-event-2
     array-read-put-event-3
     put-event-requires
     add-i
+    add-position
     loop-less
     loop-again
     same-length
