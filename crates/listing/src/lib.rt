@@ -124,7 +124,8 @@ pub fn list(s: &[u8], page: &mut [u8; PAGE]) -> usize
     let n = s.len();
     let mut kinds = [0u32; 32];
     let mut events = [[0u32; 4]; 3780];
-    let found = sheet::read(&out[..n], &mut kinds, &mut events);
+    let worked = &out[..n];
+    let found = sheet::read(worked, &mut kinds, &mut events);
     let m = found.events as usize;
     let used = put_events(page, &events[..m]);
     let row = done.row;

@@ -48,20 +48,20 @@ returns c =
 array-share-prefix-out : tie.Need-array-share-prefix-out
 array-share-prefix-out c = omega (arith, not-long (c .before .before .before .before .before .before .args .s .now) (done c .accepted), slice-aggregate-work (c .before .before .before .before), c .before .before .before .work .kept .1 .0)
 
+slice-aggregate-worked : tie.Need-slice-aggregate-worked
+slice-aggregate-worked c = sym (length-take-le _ _ (array-share-prefix-out (c .before)))
+
 slice-aggregate-read : tie.Need-slice-aggregate-read
-slice-aggregate-read c = sym (length-take-le _ _ (array-share-prefix-out (c .before)))
+slice-aggregate-read c = search needs
 
 slice-aggregate-read-2 : tie.Need-slice-aggregate-read-2
 slice-aggregate-read-2 c = search needs
-
-slice-aggregate-read-3 : tie.Need-slice-aggregate-read-3
-slice-aggregate-read-3 c = search needs
 
 -- read again, the output hands out the events of the worked sheet
 again : (c : tie.After-read) → Again (c .before .before .before .before .before .before .before .before .before .before .args .s .now) (done (c .before .before .before .before) .accepted) (c .read .result) (c .read .last .1 .1 .0)
 again c =
     let d = done (c .before .before .before .before) in
-    read-again (c .before .before .before .before .before .before .before .before .before .before .args .s .now) (d .accepted) (small (c .before .before .before .before .before .before .before .before .before)) _ _ (d .bytes) (c .read .result) _ _ _ _ (omega (arith, slice-aggregate-read-2 (c .before .before))) (omega (arith, slice-aggregate-read-3 (c .before))) (c .read .ensures)
+    read-again (c .before .before .before .before .before .before .before .before .before .before .args .s .now) (d .accepted) (small (c .before .before .before .before .before .before .before .before .before)) _ _ (d .bytes) (c .read .result) _ _ _ _ (omega (arith, slice-aggregate-read (c .before .before))) (omega (arith, slice-aggregate-read-2 (c .before))) (c .read .ensures)
 
 read-requires : tie.Need-read-requires
 read-requires c κs = search needs
@@ -120,9 +120,9 @@ list-spec =
     put-refused-requires
     returns
     array-share-prefix-out
+    slice-aggregate-worked
     slice-aggregate-read
     slice-aggregate-read-2
-    slice-aggregate-read-3
     read-requires
     cast-m
     array-share-prefix-events
