@@ -73,10 +73,10 @@ loop-again c =
     let more = events-more 1 (a .events .now) i k (omega arith) (l .loop .inv .5) in
     let fits : l .loop .p + length (lineOfEvent k e) ≤ length (a .out .now) = omega arith in (
       omega arith,
-      r .0 ∙ next-place (a .out .now) (l .loop .out) _ _ _ 0 (l .loop .p) (l .loop .inv .4) (l .loop .inv .1) more fits,
+      rw (r .0) (next-place (a .out .now) (l .loop .out) _ _ _ 0 (l .loop .p) (l .loop .inv .4) (l .loop .inv .1) more fits),
       omega (arith, r .0),
       search needs,
-      r .1 ∙ next-stands (a .out .now) (l .loop .out) _ _ _ 0 (l .loop .p) (l .loop .inv .4) (l .loop .inv .1) more fits,
+      rw (r .1) (next-stands (a .out .now) (l .loop .out) _ _ _ 0 (l .loop .p) (l .loop .inv .4) (l .loop .inv .1) more fits),
       omega arith,
     )
 
