@@ -1,37 +1,27 @@
--- A line of the listing, put in three parts: its first word, the numbers after it, the line feed.
+-- A line of the listing: how long it is at most, and the word "refused" a byte at a time.
 -- Assumes nothing.
-use Prim.Native.Nat.{ℕ, _+_, _*_, _≤_, _<_}
-use mathlib.Core.Path.{_≡_, refl, sym, ap, _∙_}
-use mathlib.Core.List.{List, [], _∷_, _++_, append-assoc}
-use native.Mathlib.Nat.{zero-add}
+use Prim.Native.Nat.{ℕ, _+_, _*_, _≤_}
+use mathlib.Core.Path.{_≡_}
+use mathlib.Core.List.{List, [], _∷_}
 use native.Mathlib.Omega.{arith}
 use lib.ListN.{length, set, length-append}
-use Rattle.listing.specs.Lines.{spaced, lineFeed, line}
+use Rattle.listing.specs.Lines.{ended, eventLine, sectionLine}
 use Rattle.listing.specs.Texts.{stored}
-use Rattle.listing.proofs.Stores.{put-one, stored-more, stored-then}
+use Rattle.listing.proofs.Value.{digits-long}
+use Rattle.listing.proofs.Stores.{put-one, stored-more}
 use Rattle.listing.proofs.Spaces.{spaced-long}
 
-module _ (d first ns : List ℕ) (fits : length first + length ns * 11 + 1 ≤ length d) where
-  -- the place of the line feed
-  abbrev place : ℕ
-  place = length first + length (spaced ns)
+pub ended-long : (ns : List ℕ) → length (ended ns) ≤ length ns * 11 + 1
+ended-long ns = rw length-append (omega (arith, spaced-long ns))
 
-  pub before-end : place < length d
-  before-end = omega (arith, spaced-long ns)
+-- 128 bytes are enough for a line
+pub event-long : (i n p r : ℕ) → length (eventLine i n p r) ≤ 128
+unfolding eventLine
+event-long i n p r = rw length-append (omega (arith, digits-long i, ended-long (n ∷ p ∷ r ∷ [])))
 
-  -- where the numbers begin, as the code counts
-  pub line-put : (p : ℕ) → p ≡ length first → set (stored (stored d 0 first) p (spaced ns)) (p + length (spaced ns)) lineFeed ≡ stored d 0 (line first ns)
-  line-put p e =
-      let k : p ≡ 0 + length first = omega arith in
-      let m : p + length (spaced ns) ≡ 0 + length (first ++ spaced ns) = rw length-append (omega arith) in
-      let a : stored (stored d 0 first) p (spaced ns) ≡ stored d 0 (first ++ spaced ns) =
-      ap (λ (j : ℕ). stored (stored d 0 first) j (spaced ns)) k ∙ stored-then d 0 first (spaced ns) (omega (arith, spaced-long ns)) in
-      rw (a, m)
-      (stored-more d 0 (first ++ spaced ns) lineFeed (omega (arith, m, e, before-end))
-      ∙ ap (stored d 0) (append-assoc first (spaced ns) (lineFeed ∷ [])))
-
-  pub line-long : place + 1 ≡ length (line first ns)
-  line-long = rw (length-append, length-append) (omega arith)
+pub section-long : (ns : List ℕ) → length ns ≤ 10 → length (sectionLine ns) ≤ 128
+unfolding sectionLine
+section-long ns h = omega (arith, ended-long ns)
 
 -- the word "refused", a byte at a time
 abbrev pub refused : List ℕ

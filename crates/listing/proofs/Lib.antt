@@ -2,4 +2,6 @@ pub mod Value
 pub mod Stores
 pub mod Spaces
 pub mod Ended
+pub mod Listed
+pub mod Sheets
 pub mod One

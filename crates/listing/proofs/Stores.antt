@@ -1,9 +1,8 @@
 -- A text stored in lent bytes from a place on: what stands before and after it stays; one byte more.
 -- Assumes nothing.
-use Prim.Native.Nat.{ℕ, zero, suc, _+_, _≤_, _<_}
-use mathlib.Core.Path.{_≡_, refl, sym, ap, _∙_}
+use Prim.Native.Nat.{ℕ, suc, _+_, _≤_, _<_}
+use mathlib.Core.Path.{_≡_, sym, ap, _∙_}
 use mathlib.Core.List.{List, [], _∷_, _++_, append-assoc}
-use native.Mathlib.Numerals.{add-one}
 use native.Mathlib.Omega.{arith}
 use lib.ListN.{length, getD, set, take, drop, length-append, length-take, length-drop, take-append-drop}
 use lib.Seq.{drop-cons, set-at, length-take-le, take-at, drop-append-add, drop-drop}
@@ -17,6 +16,11 @@ stored-none d k = let e : k + 0 ≡ k = omega arith in rw e (take-append-drop k 
 pub length-stored : (d : List ℕ) (k : ℕ) (t : List ℕ) → k + length t ≤ length d → length (stored d k t) ≡ length d
 unfolding stored
 length-stored d k t h = simp (length-append, length-take, length-drop) (omega arith)
+
+-- a text that stands in bytes is no longer than they are
+pub text-within : (d : List ℕ) (k : ℕ) (t : List ℕ) → length t ≤ length (stored d k t)
+unfolding stored
+text-within d k t = simp length-append (omega arith)
 
 -- one byte more
 pub stored-more : (d : List ℕ) (k : ℕ) (t : List ℕ) (b : ℕ) → k + length t < length d → set (stored d k t) (k + length t) b ≡ stored d k (t ++ (b ∷ []))
@@ -52,3 +56,11 @@ stored-then d k t u h =
     ∙ drop-drop (length u) K d in
     let m : k + length (t ++ u) ≡ K + length u = rw length-append (omega arith) in
     rw (a, b, m) (append-assoc (take k d) t (u ++ drop (K + length u) d) ∙ ap (λ (xs : List ℕ). take k d ++ xs) (sym (append-assoc t u (drop (K + length u) d))))
+
+-- one text more: where t stands, u is put right after it
+module _ (d out t u t′ : List ℕ) (k p : ℕ) (stands : out ≡ stored d k t) (place : p ≡ k + length t) (more : t′ ≡ t ++ u) (fits : p + length u ≤ length d) where
+  pub next-stands : stored out p u ≡ stored d k t′
+  next-stands = rw (stands, place, more) (stored-then d k t u (omega (arith, place)))
+
+  pub next-place : p + length u ≡ k + length t′
+  next-place = rw (more, length-append) (omega (arith, place))

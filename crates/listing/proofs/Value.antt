@@ -8,7 +8,7 @@ use native.Mathlib.Omega.{arith}
 use borrow.Author.Tests.{lt-ltb, le-ltb, ltb-true, ltb-false}
 use lib.Dec.{ltb}
 use lib.ListN.{length, getD, length-append, List·getD-append}
-use Rattle.listing.specs.Digits.{pick, digit, digitsIn, digits}
+use Rattle.listing.specs.Digits.{digit, digitsIn, digits}
 
 module _ (f n : ℕ) where
   in-one : n < 10 → digitsIn (suc f) n ≡ digit n ∷ []

@@ -4,11 +4,7 @@
 use Prim.Native.Nat.{ℕ, zero, suc, _+_, _/_, _%_}
 use mathlib.Core.List.{List, [], _∷_, _++_}
 use lib.Dec.{ltb}
-use mathlib.Core.Bool.{Bool, true, false}
-
-abbrev pub pick : {X : Type 0} → Bool → X → X → X
-pick true a b = a
-pick false a b = b
+use Rattle.relay.specs.Choice.{pick}
 
 -- the byte of a digit: '0' is 48
 abbrev pub digit : ℕ → ℕ

@@ -18,9 +18,13 @@ unfoldable pub spaced : List ℕ → List ℕ
 spaced [] = []
 spaced (n ∷ ns) = space ∷ (digits n ++ spaced ns)
 
+-- numbers, each after a single space, then the line feed
+abbrev pub ended : List ℕ → List ℕ
+ended ns = spaced ns ++ (lineFeed ∷ [])
+
 -- a word or a number, then numbers, then the line feed
 abbrev pub line : List ℕ → List ℕ → List ℕ
-line first ns = first ++ (spaced ns ++ (lineFeed ∷ []))
+line first ns = first ++ ended ns
 
 -- 'one line per event: position from 1, event, post, answer'
 unfoldable pub eventLine : ℕ → ℕ → ℕ → ℕ → List ℕ
@@ -35,6 +39,6 @@ sectionLine ns = line (83 ∷ []) ns
 unfoldable pub refusedLine : ℕ → ℕ → List ℕ
 refusedLine number block = line (114 ∷ 101 ∷ 102 ∷ 117 ∷ 115 ∷ 101 ∷ 100 ∷ []) (number ∷ block ∷ [])
 
--- what a call that puts a line states: r is its length, and it stands at the front of the lent bytes; what stands past it stays
+-- what a call that puts a text states: r is its length, and it stands at the front of the lent bytes; what stands past it stays
 abbrev pub Lined : List ℕ → ℕ → List ℕ → List ℕ → Type 0
 Lined t r out out′ = (r ≡ length t) × (out′ ≡ stored out 0 t)

@@ -1,16 +1,20 @@
-// The lines of the listing, put into a lent array: words and numbers after single spaces, and a line feed.
-ghost use mathlib.Core.Path.{_≡_};
+// The listing of a sheet, put into a lent page. 01, 'The program and one listing'.
 ghost use Prim.Native.Nat.{_+_, _*_, _≤_};
-ghost use mathlib.Core.List.{_∷_, []};
 ghost use lib.ListN.{length};
+ghost use Rattle.row.specs.Row.{lineOf};
 ghost use Rattle.listing.specs.Digits.{digits};
-ghost use Rattle.listing.specs.Lines.{space, spaced, lineFeed, eventLine, sectionLine, refusedLine, Lined};
-ghost use Rattle.listing.specs.Texts.{stored};
+ghost use Rattle.listing.specs.Lines.{ended, eventLine, sectionLine, refusedLine, Lined};
+ghost use Rattle.listing.specs.Listing.{eventLines, sectionLines, listingOf};
+ghost use Rattle.listing.specs.Texts.{Put};
+use row::Row;
+
+// Room for any listing: 128 bytes for each of 3,780 events and 31 sections.
+pub const PAGE: usize = (3780 + 31) * 128;
 
 // The digits of `n` from `at` on; the place past them.
 fn put_number(out: &mut [u8], at: usize, n: u32) -> usize
     requires { ⌜ at + 10 ≤ length (now out) ⌝ }
-    ensures { λ r. ⌜ (r ≡ at + length (digits n)) × (now (out .exit) ≡ stored (now (out .entry)) at (digits n)) ⌝ }
+    ensures { λ r. ⌜ Put (digits n) at r (now (out .entry)) (now (out .exit)) ⌝ }
 {
     if n < 10 {
         out[at] = 48 + n as u8;
@@ -21,10 +25,10 @@ fn put_number(out: &mut [u8], at: usize, n: u32) -> usize
     p + 1
 }
 
-// Each number after a single space, from `at` on; the place past them.
-fn put_spaced(out: &mut [u8], at: usize, ns: &[u32]) -> usize
-    requires { ⌜ (length (now ns) ≤ 10) × (at + length (now ns) * 11 ≤ length (now out)) ⌝ }
-    ensures { λ r. ⌜ (r ≡ at + length (spaced (now (ns .entry)))) × (now (out .exit) ≡ stored (now (out .entry)) at (spaced (now (ns .entry)))) ⌝ }
+// Each number after a single space, from `at` on, and the line feed; the place past it.
+fn put_rest(out: &mut [u8], at: usize, ns: &[u32]) -> usize
+    requires { ⌜ (length (now ns) ≤ 10) × (at + length (now ns) * 11 + 1 ≤ length (now out)) ⌝ }
+    ensures { λ r. ⌜ Put (ended (now (ns .entry))) at r (now (out .entry)) (now (out .exit)) ⌝ }
 {
     let mut p = at;
     let mut i: usize = 0;
@@ -33,32 +37,31 @@ fn put_spaced(out: &mut [u8], at: usize, ns: &[u32]) -> usize
         p = put_number(out, p + 1, ns[i]);
         i += 1;
     }
-    p
+    out[p] = 10;
+    p + 1
 }
 
-// 'position from 1, event, post, answer'; how long the line is.
-pub fn event_line(out: &mut [u8; 128], position: u32, event: u32, post: u32, answer: u32) -> usize
-    ensures { λ r. ⌜ Lined (eventLine position event post answer) r (now (out .entry)) (now (out .exit)) ⌝ }
+// 'position from 1, event, post, answer', from `at` on; the place past the line.
+fn put_event(out: &mut [u8], at: usize, position: u32, event: u32, post: u32, answer: u32) -> usize
+    requires { ⌜ at + 128 ≤ length (now out) ⌝ }
+    ensures { λ r. ⌜ Put (eventLine position event post answer) at r (now (out .entry)) (now (out .exit)) ⌝ }
 {
     let ns = [event, post, answer];
-    let p = put_number(out, 0, position);
-    let q = put_spaced(out, p, &ns);
-    out[q] = 10;
-    q + 1
+    let p = put_number(out, at, position);
+    put_rest(out, p, &ns)
 }
 
-// 'S, section, a, r, x, q, e, y, v, g, h': the section and its nine numbers.
-pub fn section_line(out: &mut [u8; 128], numbers: [u32; 10]) -> usize
-    ensures { λ r. ⌜ Lined (sectionLine numbers) r (now (out .entry)) (now (out .exit)) ⌝ }
+// 'S, section, a, r, x, q, e, y, v, g, h', the section and its nine numbers, from `at` on; the place past the line.
+fn put_section(out: &mut [u8], at: usize, numbers: [u32; 10]) -> usize
+    requires { ⌜ at + 128 ≤ length (now out) ⌝ }
+    ensures { λ r. ⌜ Put (sectionLine numbers) at r (now (out .entry)) (now (out .exit)) ⌝ }
 {
-    out[0] = 83;
-    let q = put_spaced(out, 1, &numbers);
-    out[q] = 10;
-    q + 1
+    out[at] = 83;
+    put_rest(out, at + 1, &numbers)
 }
 
-// '"refused", its number and the block'.
-pub fn refused_line(out: &mut [u8; 128], number: u32, block: u32) -> usize
+// '"refused", its number and the block', at the front; how long the line is.
+fn put_refused(out: &mut [u8; PAGE], number: u32, block: u32) -> usize
     ensures { λ r. ⌜ Lined (refusedLine number block) r (now (out .entry)) (now (out .exit)) ⌝ }
 {
     let ns = [number, block];
@@ -69,7 +72,62 @@ pub fn refused_line(out: &mut [u8; 128], number: u32, block: u32) -> usize
     out[4] = 115;
     out[5] = 101;
     out[6] = 100;
-    let q = put_spaced(out, 7, &ns);
-    out[q] = 10;
-    q + 1
+    put_rest(out, 7, &ns)
+}
+
+// One line for each event, at the front; how long they are.
+fn put_events(out: &mut [u8], events: &[[u32; 4]]) -> usize
+    requires { ⌜ (length (now events) ≤ 3780) × (length (now events) * 128 ≤ length (now out)) ⌝ }
+    ensures { λ r. ⌜ Lined (eventLines 1 (now (events .entry))) r (now (out .entry)) (now (out .exit)) ⌝ }
+{
+    let n = events.len() as u32;
+    let mut p: usize = 0;
+    let mut i: usize = 0;
+    let mut position: u32 = 1;
+    while position <= n {
+        let e = events[i];
+        p = put_event(out, p, position, e[0], e[1], e[2]);
+        i += 1;
+        position += 1;
+    }
+    p
+}
+
+// One line for each section, from `at` on; the place past them.
+fn put_sections(out: &mut [u8], at: usize, row: Row) -> usize
+    requires { ⌜ (row .n ≤ 32) × (at + 31 * 128 ≤ length (now out)) ⌝ }
+    ensures { λ r. ⌜ Put (sectionLines 0 (lineOf row)) at r (now (out .entry)) (now (out .exit)) ⌝ }
+{
+    let posts = row.posts;
+    let n = row.n;
+    let mut p = at;
+    let mut i: usize = 0;
+    let mut j: usize = 1;
+    while j < n {
+        let numbers = working::section(i as u32, posts[i], posts[j]);
+        p = put_section(out, p, numbers);
+        i = j;
+        j += 1;
+    }
+    p
+}
+
+// Works the sheet and puts its listing at the front of the page; how long it is.
+pub fn list(s: &[u8], page: &mut [u8; PAGE]) -> usize
+    ensures { λ r. ⌜ Lined (listingOf (now (s .entry))) r (now (page .entry)) (now (page .exit)) ⌝ }
+{
+    let mut out = [0u8; 32768];
+    let done = working::work(s, &mut out);
+    if done.number != 0 {
+        return put_refused(page, done.number, done.block);
+    }
+    let n = s.len();
+    let mut kinds = [0u32; 32];
+    let mut events = [[0u32; 4]; 3780];
+    let worked = &out[..n];
+    let found = sheet::read(worked, &mut kinds, &mut events);
+    let m = found.events as usize;
+    let used = put_events(page, &events[..m]);
+    let row = done.row;
+    put_sections(page, used, row)
 }

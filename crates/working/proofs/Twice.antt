@@ -83,7 +83,8 @@ module _ (s : List ℕ) (small : Below 256 s) (z : verdictOf s .number ≡ 0) wh
   readable : Writable (decode s)
   readable = decoded-writable (blocksIn (length s)) s (accepted-good s z) small
 
-  worked-writable : Writable (worked (decode s))
+  -- the worked sheet can be written, so it reads back
+  pub worked-writable : Writable (worked (decode s))
   worked-writable =
       let w = readable in
       record {

@@ -1,12 +1,12 @@
 -- `listing::put_number` meets its contract: the digits of a tenth of the number, and then the last one. The number falls at each call.
 -- Assumes nothing.
-use mathlib.Core.Path.{_≡_, refl, sym, ap, _∙_}
-use Prim.Native.Nat.{_+_, _/_, _%_, _≤_}
+use mathlib.Core.Path.{sym, ap, _∙_}
+use Prim.Native.Nat.{_+_, _/_, _%_}
 use native.Mathlib.Omega.{arith}
 use borrow.Author.Needs.{needs}
 use mathlib.Core.List.{List}
 use lib.ListN.{length}
-use Rattle.listing.specs.Digits.{digit, digits}
+use Rattle.listing.specs.Digits.{digits}
 use Rattle.listing.specs.Texts.{stored}
 use Rattle.listing.proofs.Value.{digits-one, digits-more, digits-less, digits-long}
 use Rattle.listing.proofs.Stores.{put-one, stored-more, length-stored}

@@ -1,20 +1,18 @@
--- `listing::put_spaced` meets its contract: the numbers so far stand, each after a space.
+-- `listing::put_rest` meets its contract: the numbers so far stand, each after a space; the line feed comes last.
 -- Assumes nothing.
-use Prim.Native.Nat.{ℕ, _+_, _-_, _*_, _≤_, _<_}
+use Prim.Native.Nat.{ℕ, _+_, _-_, _*_, _≤_}
 use mathlib.Core.Path.{_≡_, refl, sym, ap, _∙_}
-use mathlib.Core.List.{List, [], _∷_, _++_}
+use mathlib.Core.List.{List}
 use native.Mathlib.Omega.{arith}
 use borrow.Author.Needs.{needs}
-use lib.ListN.{length, getD, take, length-append, length-set}
+use lib.ListN.{length, take, length-append, length-set}
 use lib.Seq.{take-all}
-use Rattle.listing.specs.Digits.{digits}
-use Rattle.listing.specs.Lines.{space, spaced}
+use Rattle.listing.specs.Lines.{spaced, lineFeed}
 use Rattle.listing.specs.Texts.{stored}
-use Rattle.listing.proofs.Value.{digits-long}
-use Rattle.listing.proofs.Stores.{stored-none, length-stored}
+use Rattle.listing.proofs.Stores.{stored-none, stored-more, length-stored}
 use Rattle.listing.proofs.Spaces.{spaced-none, turn, turn-long, turn-short}
-use Rattle.listing.proofs.put_spaced.Statement.{statement}
-use Rattle.listing.proofs.put_spaced.Tie as tie
+use Rattle.listing.proofs.put_rest.Statement.{statement}
+use Rattle.listing.proofs.put_rest.Tie as tie
 
 abbrev Inv-loop : tie.InvT-loop
 Inv-loop out₀ at ns p₀ i₀ out p i =
@@ -63,17 +61,26 @@ loop-again c =
     e .1 ∙ rw (l .loop .inv .4, l .loop .inv .1) (turn (a .out .now) (a .ns .now) (a .at) (l .loop .i) (omega arith) r (l .loop .inv .2)) in
     (omega arith, omega (arith, e .0), short, ap (λ (xs : List ℕ). length xs) same ∙ length-stored (a .out .now) (a .at) _ (omega (arith, short)), same)
 
+slice-write-out-2 : tie.Need-slice-write-out-2 Inv-loop μ-loop
+slice-write-out-2 c = search needs
+
+add-result : tie.Need-add-result Inv-loop μ-loop
+add-result c = search needs
+
 same-length : tie.Need-same-length Inv-loop μ-loop
 same-length c = search needs
 
 returns : tie.Need-returns Inv-loop μ-loop
 returns c =
-    let a = c .before .before .before .before .args in
-    let all : take (c .before .loop .i) (a .ns .now) ≡ a .ns .now = take-all (c .before .loop .i) (a .ns .now) (omega arith) in
-    (rw all at (c .before .loop .inv .1), rw all at (c .before .loop .inv .4))
+    let l = c .before in
+    let a = l .before .before .before .args in
+    let all : take (l .loop .i) (a .ns .now) ≡ a .ns .now = take-all (l .loop .i) (a .ns .now) (omega arith) in
+    let p : l .loop .p ≡ a .at + length (spaced (a .ns .now)) = rw all at (l .loop .inv .1) in
+    let e : l .loop .out ≡ stored (a .out .now) (a .at) (spaced (a .ns .now)) = rw all at (l .loop .inv .4) in
+    (rw length-append (omega (arith, p)), rw (e, p) (stored-more (a .out .now) (a .at) (spaced (a .ns .now)) lineFeed (omega (arith, p, l .loop .inv .3))))
 
-pub put-spaced-spec : {M : Type 1} → statement M
-put-spaced-spec =
+pub put-rest-spec : {M : Type 1} → statement M
+put-rest-spec =
     tie.close
     (tie.spec
     Inv-loop
@@ -87,5 +94,7 @@ put-spaced-spec =
     add-i
     loop-less
     loop-again
+    slice-write-out-2
+    add-result
     same-length
     returns)
