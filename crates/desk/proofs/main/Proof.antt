@@ -21,8 +21,11 @@ slice-aggregate-list c = search needs
 list-requires : tie.Need-list-requires
 list-requires c κs = search needs
 
+drain-requires : tie.Need-drain-requires
+drain-requires c = search needs
+
 array-share-prefix-page : tie.Need-array-share-prefix-page
-array-share-prefix-page c = rw (c .list .ensures .0, c .list .ensures .1) (text-within _ 0 _)
+array-share-prefix-page c = rw (c .before .list .ensures .0, c .before .list .ensures .1) (text-within _ 0 _)
 
 slice-aggregate-write-all : tie.Need-slice-aggregate-write-all
 slice-aggregate-write-all c = sym (length-take-le _ _ (array-share-prefix-page (c .before)))
@@ -42,6 +45,7 @@ main-spec =
     array-share-prefix-s
     slice-aggregate-list
     list-requires
+    drain-requires
     array-share-prefix-page
     slice-aggregate-write-all
     write-all-requires
