@@ -5,7 +5,7 @@ ghost use mathlib.Core.Bool.{_&&_};
 ghost use lib.Dec.{eqb, leb};
 ghost use lib.ListN.{length};
 ghost use Rattle.relay.specs.Kinds.{countFits, tableOk};
-ghost use Rattle.relay.specs.Posts.{freshPost};
+ghost use Rattle.relay.specs.Posts.{blank, freshPost};
 ghost use Rattle.relay.specs.Valid.{mostEvents};
 ghost use Rattle.line.specs.Pass.{pairOk};
 
@@ -35,13 +35,13 @@ pub fn pair_ok(p: Post, d: Post, i: usize, n: usize, taken: u32) -> bool
     ok
 }
 
-// A post of a fresh line.
-pub fn fresh(kind: u32) -> Post
-    ensures { λ r. ⌜ r ≡ freshPost kind ⌝ }
+// A record of zeros: what stands past the end of a row.
+pub fn blank_post() -> Post
+    ensures { λ r. ⌜ r ≡ blank ⌝ }
 {
     Post {
-        word: post::fresh_word(kind),
-        kind: kind,
+        word: 0,
+        kind: 0,
         a: 0,
         x: 0,
         y: 0,
@@ -52,6 +52,16 @@ pub fn fresh(kind: u32) -> Post
         e: 0,
         c: 0,
     }
+}
+
+// A post of a fresh line.
+pub fn fresh(kind: u32) -> Post
+    ensures { λ r. ⌜ r ≡ freshPost kind ⌝ }
+{
+    let mut p = blank_post();
+    p.word = post::fresh_word(kind);
+    p.kind = kind;
+    p
 }
 
 // Whether a row of `m` records may be started from the table: of its length, and right.

@@ -1,7 +1,6 @@
 // A row of at most 32 records by value, for callers that keep the line themselves: the same definitions as over the lent row.
 ghost use mathlib.Core.Path.{_≡_};
 ghost use Rattle.relay.specs.Valid.{valid};
-ghost use Rattle.relay.specs.Posts.{blank};
 ghost use Rattle.row.specs.Row.{lineOf, eventRow, startRow};
 use relay::Head;
 use relay::Post;
@@ -75,31 +74,12 @@ pub fn event_row(row: Row, s: Head, number: u32, place: u32, stamp: u32) -> Stoo
     }
 }
 
-// What stands past the end of a row.
-pub fn blank_post() -> Post
-    ensures { λ r. ⌜ r ≡ blank ⌝ }
-{
-    Post {
-        word: 0,
-        kind: 0,
-        a: 0,
-        x: 0,
-        y: 0,
-        v: 0,
-        g: 0,
-        r: 0,
-        q: 0,
-        e: 0,
-        c: 0,
-    }
-}
-
 // A row started from a table of kinds.
 pub fn start_row(kinds: &[u32], stamp: u32) -> Stood
     ensures { λ r. ⌜ r ≡ startRow (now (kinds .entry)) stamp ⌝ }
 {
     let n = kinds.len();
-    let b = blank_post();
+    let b = line::blank_post();
     let mut posts = [b; 32];
     if !line::may_start(n, kinds) {
         let told = relay::gate::tell(relay::NOT_VALID, 0, 0);

@@ -76,7 +76,7 @@ pub fn first_answered(events: &[[u32; 4]]) -> usize
 pub fn refuse(number: u32, block: u32) -> Worked
     ensures { λ r. ⌜ r ≡ record { number = number; block = block; row = rowOf []; head = head 0 0 } ⌝ }
 {
-    let b = row::blank_post();
+    let b = line::blank_post();
     let posts = [b; 32];
     Worked {
         number: number,
