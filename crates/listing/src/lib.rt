@@ -8,8 +8,11 @@ ghost use Rattle.listing.specs.Listing.{eventLines, sectionLines, listin
 ghost use Rattle.listing.specs.Texts.{Put};
 use row::Row;
 
-// Room for any listing: 128 bytes for each of 3,780 events and 31 sections.
-pub const PAGE: usize = (3780 + 31) * 128;
+// Room for any line.
+pub const LINE: usize = 128;
+
+// Room for any listing: a line for each of 3,780 events and 31 sections.
+pub const PAGE: usize = (3780 + 31) * LINE;
 
 // The digits of `n` from `at` on; the place past them.
 fn put_number(out: &mut [u8], at: usize, n: u32) -> usize
@@ -61,7 +64,8 @@ fn put_section(out: &mut [u8], at: usize, numbers: [u32; 10]) -> usize
 }
 
 // '"refused", its number and the block', at the front; how long the line is.
-fn put_refused(out: &mut [u8; PAGE], number: u32, block: u32) -> usize
+fn put_refused(out: &mut [u8], number: u32, block: u32) -> usize
+    requires { ⌜ 128 ≤ length (now out) ⌝ }
     ensures { λ r. ⌜ Lined (refusedLine number block) r (now (out .entry)) (now (out .exit)) ⌝ }
 {
     let ns = [number, block];
@@ -110,6 +114,27 @@ fn put_sections(out: &mut [u8], at: usize, row: Row) -> usize
         j += 1;
     }
     p
+}
+
+// One line of a listing alone, at the front of a lent array; how long it is. An event's:
+pub fn event_line(out: &mut [u8; LINE], position: u32, event: u32, post: u32, answer: u32) -> usize
+    ensures { λ r. ⌜ Lined (eventLine position event post answer) r (now (out .entry)) (now (out .exit)) ⌝ }
+{
+    put_event(out, 0, position, event, post, answer)
+}
+
+// A section's, its number and its nine numbers.
+pub fn section_line(out: &mut [u8; LINE], numbers: [u32; 10]) -> usize
+    ensures { λ r. ⌜ Lined (sectionLine numbers) r (now (out .entry)) (now (out .exit)) ⌝ }
+{
+    put_section(out, 0, numbers)
+}
+
+// A refusal's.
+pub fn refused_line(out: &mut [u8; LINE], number: u32, block: u32) -> usize
+    ensures { λ r. ⌜ Lined (refusedLine number block) r (now (out .entry)) (now (out .exit)) ⌝ }
+{
+    put_refused(out, number, block)
 }
 
 // Works the sheet and puts its listing at the front of the page; how long it is.
