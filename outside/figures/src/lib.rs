@@ -3,45 +3,28 @@
 use model::{Head, Post, Told};
 use std::slice;
 
-/// # Safety
-/// `row` leads to `n` records that nothing else uses.
-#[no_mangle]
-pub unsafe extern "C" fn tested_event(
-    row: *mut Post,
-    n: usize,
-    head: Head,
-    number: u32,
-    place: u32,
-    stamp: u32,
-) -> Told {
-    model::event(
-        slice::from_raw_parts_mut(row, n),
-        head,
-        number,
-        place,
-        stamp,
-    )
+/// An event of the model as C calls it.
+macro_rules! event_call {
+    ($name:ident, $event:path) => {
+        /// # Safety
+        /// `row` leads to `n` records that nothing else uses.
+        #[no_mangle]
+        pub unsafe extern "C" fn $name(
+            row: *mut Post,
+            n: usize,
+            head: Head,
+            number: u32,
+            place: u32,
+            stamp: u32,
+        ) -> Told {
+            let row = slice::from_raw_parts_mut(row, n);
+            $event(row, head, number, place, stamp)
+        }
+    };
 }
 
-/// # Safety
-/// As `tested_event`; the line may be used.
-#[no_mangle]
-pub unsafe extern "C" fn simple_event(
-    row: *mut Post,
-    n: usize,
-    head: Head,
-    number: u32,
-    place: u32,
-    stamp: u32,
-) -> Told {
-    model::event_on_valid(
-        slice::from_raw_parts_mut(row, n),
-        head,
-        number,
-        place,
-        stamp,
-    )
-}
+event_call!(tested_event, model::event);
+event_call!(simple_event, model::event_on_valid);
 
 /// The sum of the words of a block, round 2^32.
 ///
