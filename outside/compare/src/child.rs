@@ -24,11 +24,7 @@ pub struct ChildLibrary {
 
 impl ChildLibrary {
     pub fn new(command: &[String], limit: Duration) -> io::Result<Self> {
-        let mut child = Command::new(&command[0])
-            .args(&command[1..])
-            .stdin(Stdio::piped())
-            .stdout(Stdio::piped())
-            .spawn()?;
+        let mut child = piped(command)?;
         let stdin = child.stdin.take();
         let stdout = child.stdout.take().ok_or(io::ErrorKind::BrokenPipe)?;
         let stdout = BufReader::with_capacity(1 << 18, stdout);
@@ -61,6 +57,15 @@ impl ChildLibrary {
             (read, status) => Err(format!("the library's end: {read:?}, {status:?}")),
         }
     }
+}
+
+/// The command, with its input and output held here.
+pub fn piped(command: &[String]) -> io::Result<Child> {
+    Command::new(&command[0])
+        .args(&command[1..])
+        .stdin(Stdio::piped())
+        .stdout(Stdio::piped())
+        .spawn()
 }
 
 /// No server outlives its run, also when a difference ends it early.

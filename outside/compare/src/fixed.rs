@@ -1,30 +1,10 @@
 //! The working program's fixed cases, always run.
 
-use model::{Entry, MOST_EVENTS, UNANSWERED};
+use model::{paper, Entry, MOST_EVENTS, UNANSWERED};
 
 use crate::histories::{lively_event, near_stamp, Play};
 use crate::random::Random;
 use crate::sheets::{lively_sheet, put, renewed, Sheet};
-
-/// 01, The program and one listing: the text as the paper has it.
-pub const PAPERS_LISTING: &str = "\
-1 1 0 0
-2 4 0 0
-3 5 0 10
-4 2 0 0
-5 1 0 8
-6 5 0 0
-7 3 1 0
-8 8 0 0
-9 6 1 12
-10 3 1 0
-11 6 1 0
-12 9 0 0
-13 1 0 8
-14 10 0 0
-15 1 0 0
-S 0 1 1 0 1 1 1 0 1 0
-";
 
 /// A sheet for the program and what it must print.
 pub struct Fixed {
@@ -47,24 +27,12 @@ fn short_sheet(events: &[(u32, u32)]) -> Sheet {
 }
 
 fn papers_sheet() -> Vec<u8> {
-    let events = [
-        (1, 0),
-        (4, 0),
-        (5, 0),
-        (2, 0),
-        (1, 0),
-        (5, 0),
-        (3, 1),
-        (8, 0),
-        (6, 1),
-        (3, 1),
-        (6, 1),
-        (9, 0),
-        (1, 0),
-        (10, 0),
-        (1, 0),
-    ];
-    short_sheet(&events).bytes()
+    Sheet {
+        kinds: paper::KINDS.to_vec(),
+        stamp: 0,
+        events: paper::unanswered(),
+    }
+    .bytes()
 }
 
 /// 32 posts, kinds 2, 3 and 4 inside by turns, and a history in which every event
@@ -115,7 +83,7 @@ pub fn fixed_cases() -> Vec<Fixed> {
         Fixed {
             name: "the paper's fifteen events",
             sheet: papers_sheet(),
-            listing: PAPERS_LISTING.to_string(),
+            listing: paper::LISTING.to_string(),
         },
         Fixed {
             name: "a header alone",

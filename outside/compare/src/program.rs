@@ -1,13 +1,13 @@
 //! The working program, run once for each sheet, beside the model's listing.
 
 use std::io::{self, Read, Write};
-use std::process::{ChildStdin, Command, Stdio};
+use std::process::ChildStdin;
 use std::sync::mpsc::sync_channel;
 use std::thread;
 
 use model::BLOCK_BYTES;
 
-use crate::child::{watch, TIME_LIMIT};
+use crate::child::{piped, watch, TIME_LIMIT};
 use crate::damage::KINDS;
 use crate::fixed::fixed_cases;
 use crate::random::Random;
@@ -28,11 +28,7 @@ pub enum Given {
 
 /// Runs the program on one sheet: its output and whether it ended with status 0.
 pub fn run_program(command: &[String], sheet: &[u8], given: Given) -> io::Result<(Vec<u8>, bool)> {
-    let mut child = Command::new(&command[0])
-        .args(&command[1..])
-        .stdin(Stdio::piped())
-        .stdout(Stdio::piped())
-        .spawn()?;
+    let mut child = piped(command)?;
     let stdin = child.stdin.take();
     let stdout = child.stdout.take();
     let mut printed = Vec::new();

@@ -1,36 +1,6 @@
 //! Each call once through the wrapper: that pointers, counts and returned structs meet the C calling convention.
-use desk::{event, read, start, test, valid, work, write, Entry, Head, Post, Verdict};
-
-const KINDS: [u32; 2] = [0, 1];
-
-/// The paper's events, stamped 1000k, and the answers that it lists.
-const LISTING: [[u32; 3]; 15] = [
-    [1, 0, 0],
-    [4, 0, 0],
-    [5, 0, 10],
-    [2, 0, 0],
-    [1, 0, 8],
-    [5, 0, 0],
-    [3, 1, 0],
-    [8, 0, 0],
-    [6, 1, 12],
-    [3, 1, 0],
-    [6, 1, 0],
-    [9, 0, 0],
-    [1, 0, 8],
-    [10, 0, 0],
-    [1, 0, 0],
-];
-
-fn stamped() -> impl Iterator<Item = (u32, [u32; 3])> {
-    (1000..).step_by(1000).zip(LISTING)
-}
-
-fn unanswered() -> Vec<Entry> {
-    stamped()
-        .map(|(stamp, [number, post, _])| [number, post, 31, stamp])
-        .collect()
-}
+use desk::{event, read, start, test, valid, work, write, Head, Post, Verdict};
+use model::paper::{answered, unanswered, KINDS};
 
 fn is_last(row: &[Post]) -> bool {
     let (up, down) = (row[0], row[1]);
@@ -42,7 +12,7 @@ fn the_listing_event_by_event() {
     let mut row = [Post::default(); 2];
     let mut told = start(&mut row, &KINDS, 0);
     assert_eq!(told.answer, 0);
-    for (stamp, [number, place, answer]) in stamped() {
+    for [number, place, answer, stamp] in answered() {
         told = event(&mut row, told.head, number, place, stamp);
         assert_eq!(told.answer, answer);
     }
@@ -72,9 +42,7 @@ fn the_listing_as_a_sheet() {
         (0, 2, 0, 15)
     );
     assert_eq!(kinds, [0, 1, 9]);
-    for (entry, (stamp, [number, post, answer])) in events.iter().zip(stamped()) {
-        assert_eq!(*entry, [number, post, answer, stamp]);
-    }
+    assert_eq!(events[..15], answered());
     assert_eq!(events[15], [9; 4]);
 }
 

@@ -6,6 +6,7 @@
 mod events;
 mod line;
 mod listing;
+pub mod paper;
 mod sheet;
 mod working;
 

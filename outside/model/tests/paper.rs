@@ -3,28 +3,6 @@
 use model::number::*;
 use model::*;
 
-const FIFTEEN: [(u32, u32); 15] = [
-    (1, 0),
-    (4, 0),
-    (5, 0),
-    (2, 0),
-    (1, 0),
-    (5, 0),
-    (3, 1),
-    (8, 0),
-    (6, 1),
-    (3, 1),
-    (6, 1),
-    (9, 0),
-    (1, 0),
-    (10, 0),
-    (1, 0),
-];
-
-const LISTING: &str = "1 1 0 0\n2 4 0 0\n3 5 0 10\n4 2 0 0\n5 1 0 8\n6 5 0 0\n7 3 1 0\n\
-    8 8 0 0\n9 6 1 12\n10 3 1 0\n11 6 1 0\n12 9 0 0\n13 1 0 8\n14 10 0 0\n15 1 0 0\n\
-    S 0 1 1 0 1 1 1 0 1 0\n";
-
 fn sheet(kinds: &[u32], stamp: u32, events: &[Entry]) -> Vec<u8> {
     let mut out = vec![0; BLOCK_BYTES * (1 + events.len().div_ceil(EVENTS_PER_BLOCK))];
     assert_eq!(write(kinds, stamp, events, &mut out), TAKEN);
@@ -32,11 +10,7 @@ fn sheet(kinds: &[u32], stamp: u32, events: &[Entry]) -> Vec<u8> {
 }
 
 fn fifteen() -> Vec<u8> {
-    let events: Vec<Entry> = (1..)
-        .zip(FIFTEEN)
-        .map(|(k, (number, post))| [number, post, UNANSWERED, 1000 * k])
-        .collect();
-    sheet(&[0, 1], 0, &events)
+    sheet(&paper::KINDS, 0, &paper::unanswered())
 }
 
 fn fresh(kinds: &[u32], stamp: u32) -> (Vec<Post>, Head) {
@@ -68,7 +42,7 @@ fn read_wide(bytes: &[u8]) -> Found {
 
 #[test]
 fn the_listing_byte_for_byte() {
-    assert_eq!(listing(&fifteen()), LISTING);
+    assert_eq!(listing(&fifteen()), paper::LISTING);
 }
 
 /// Before, event, post, stamp, answer.

@@ -1,0 +1,28 @@
+/*
+ * The calls whose result C returns in memory, on a machine other than x86-64: their modules are lowered for x86-64,
+ * where the address of that memory is the first argument, so it is passed as such. Used by outside/valgrind alone.
+ */
+#include "desk.h"
+
+void read_at(struct desk_found *, const uint8_t *, size_t, uint32_t *, size_t, desk_entry *, size_t) __asm__("desk_read");
+void work_at(struct desk_worked *, const uint8_t *, size_t, uint8_t *, size_t) __asm__("desk_work");
+
+static inline struct desk_found read_by_value(const uint8_t *sheet, size_t n, uint32_t *kinds, size_t k, desk_entry *events,
+                                              size_t m)
+{
+    struct desk_found found;
+
+    read_at(&found, sheet, n, kinds, k, events, m);
+    return found;
+}
+
+static inline struct desk_worked work_by_value(const uint8_t *sheet, size_t n, uint8_t *out, size_t room)
+{
+    struct desk_worked worked;
+
+    work_at(&worked, sheet, n, out, room);
+    return worked;
+}
+
+#define desk_read read_by_value
+#define desk_work work_by_value
