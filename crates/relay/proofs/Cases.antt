@@ -18,7 +18,7 @@ use Rattle.relay.specs.declared.Head.{Head}
 use Rattle.relay.specs.declared.Pair.{Pair}
 use Rattle.relay.specs.declared.Post.{Post}
 use Rattle.relay.proofs.Accepted.{Accepted, reverse-iff, normal-iff, announce-iff, release-iff, garage-iff, under-way-iff, restore-iff}
-use Rattle.relay.proofs.Truth.{facts, unless-facts, or-facts, equal-or-not, by}
+use Rattle.relay.proofs.Truth.{facts, unless-facts, or-facts, from, by}
 
 -- 6 and 7 at the post named: 'An and KPg drop, e grows by 1', with c afterwards
 abbrev pub sentBack : ℕ → Post → Post
@@ -74,10 +74,6 @@ pub data Taken (p o : Post) : ℕ → Pair → Type 0 where
       → Taken p o 10 (pair (more-g (wordTo (raise RL (raise L (p .word))) p)) o)
 
 -- ---- each event that is taken is in one of its cases
--- what holds of the number m, and of each from the next on up to 10, holds of each from m on
-from : (P : ℕ → Type 0) (m : ℕ) → P m → ((n : ℕ) → m + 1 ≤ n → n ≤ 10 → P n) → (n : ℕ) → m ≤ n → n ≤ 10 → P n
-from P m f g n h k = equal-or-not n m (λ e. rw e f) (λ e. g n (omega arith) k)
-
 module _ (p o : Post) where
   -- neither 6 nor one of the event's own list is given
   own-iff : (n : ℕ)
@@ -165,14 +161,14 @@ module _ (p o : Post) where
   -- every event number
   pub taken-cases : (n : ℕ) → 1 ≤ n → n ≤ 10 → Is n
   taken-cases =
-      from Is 1 is-reverse
-      (from Is 2 is-normal
-      (from Is 3 is-pass
-      (from Is 4 is-strike
-      (from Is 5 is-announce
-      (from Is 6 is-release
-      (from Is 7 is-garage
-      (from Is 8 is-arrival (from Is 9 is-loss (from Is 10 is-restore (λ n h k. absurd (omega arith)))))))))))
+      from Is 10 1 is-reverse
+      (from Is 10 2 is-normal
+      (from Is 10 3 is-pass
+      (from Is 10 4 is-strike
+      (from Is 10 5 is-announce
+      (from Is 10 6 is-release
+      (from Is 10 7 is-garage
+      (from Is 10 8 is-arrival (from Is 10 9 is-loss (from Is 10 10 is-restore (λ n h k. absurd (omega arith)))))))))))
 
 -- an event that is taken on a line is in one of its cases
 pub accepted-case : (l : List Post) (s : Head) (n i t : ℕ) → Accepted l s n i t

@@ -1,0 +1,178 @@
+-- The answer to an event is the number that the paper's table gives it, for every line, head, event, place and stamp; and the table gives exactly one.
+-- It holds down the order of the table; from 6 on event by event and kind by kind, where all but the relays computes.
+use Prim.Native.Nat.{ℕ, _+_, _-_, _%_, _^_, _≤_, _<_}
+use mathlib.Core.Path.{_≡_, refl, sym, _∙_}
+use mathlib.Core.Bool.{Bool, true, false, not, _&&_, _||_, or-false, or-true}
+use mathlib.Core.List.{List, [], _∷_}
+use mathlib.Core.Logic.{_↔_}
+use native.Mathlib.Omega.{arith}
+use borrow.Author.Tests.{eqb-true, eq-eqb, ne-eqb, le-leb, lt-leb, lt-ltb, le-ltb}
+use lib.Dec.{eqb, leb, ltb}
+use lib.ListN.{length}
+use Rattle.relay.specs.Choice.{pick}
+use Rattle.relay.specs.Clock.{apart, behind}
+use Rattle.relay.specs.Events.{refusal, lacks, ownRefusal, reverseRefusal, normalRefusal, announceRefusal, releaseRefusal, garageRefusal, underWayRefusal, restoreRefusal}
+use Rattle.relay.specs.Given.{Row, eventReasons, reasons, givenBy, given}
+use Rattle.relay.specs.Kinds.{hasSignalPedal, hasPassagePedal, hasGarageRelease}
+use Rattle.relay.specs.Line.{numbered, namesSection, present, neighbour, gate, answerOf}
+use Rattle.relay.specs.Posts.{at}
+use Rattle.relay.specs.Valid.{valid}
+use Rattle.relay.specs.declared.Head.{Head}
+use Rattle.relay.specs.declared.Post.{Post}
+use Rattle.relay.proofs.Facts.{valid-iff}
+use Rattle.relay.proofs.KeptPosts.{kind-small}
+use Rattle.relay.proofs.Truth.{facts, and-facts, not-facts, not-false-facts, eqb-facts, split, equal-or-not, least-or-below, from}
+
+-- ---- the table as a list of refusals
+-- the number of the first reason that holds, 0 where none does
+unfoldable first : List Row → ℕ
+first [] = 0
+first (r ∷ rs) = pick (r .reason) (r .number) (first rs)
+
+-- k stands in no row, and is not 0
+unfoldable absent : ℕ → List Row → Bool
+absent k [] = not (eqb k 0)
+absent k (r ∷ rs) = not (eqb k (r .number)) && absent k rs
+
+-- no number stands in two rows, nor 0 in any
+unfoldable once : List Row → Bool
+once [] = true
+once (r ∷ rs) = absent (r .number) rs && once rs
+
+eqb-sym : (m n : ℕ) → eqb m n ≡ eqb n m
+eqb-sym m n = equal-or-not m n (λ e. rw e) (λ e. rw (ne-eqb m n e) (sym (ne-eqb n m (λ f. e (sym f)))))
+
+-- a number that stands in no row is not the first
+not-first : (k : ℕ) (rs : List Row) → absent k rs ≡ true → eqb (first rs) k ≡ false
+unfolding first absent
+not-first k [] e = eqb-sym 0 k ∙ not-facts (eqb k 0) .0 e
+not-first k (r ∷ rs) e =
+    let f = and-facts (not (eqb k (r .number))) (absent k rs) .0 e in
+    split (r .reason) (λ b. rw b (eqb-sym (r .number) k ∙ not-facts (eqb k (r .number)) .0 (f .0))) (λ b. rw b (not-first k rs (f .1)))
+
+chosen : (b : Bool) → b ≡ pick b true false
+chosen true = refl
+chosen false = refl
+
+-- the first number is k exactly when k is given
+first-given : (k : ℕ) (rs : List Row) → once rs ≡ true → eqb (first rs) k ≡ givenBy rs k
+unfolding first once givenBy
+first-given k [] e = eqb-sym 0 k
+first-given k (r ∷ rs) e =
+    let f = and-facts (absent (r .number) rs) (once rs) .0 e in
+    split (r .reason)
+    (λ b. rw b (eqb-sym (r .number) k ∙ chosen (eqb k (r .number))))
+    (λ b.
+    rw b
+    (equal-or-not k (r .number)
+    (λ e. rw (eq-eqb k (r .number) e) (rw e (not-first (r .number) rs (f .0))))
+    (λ e. rw (ne-eqb k (r .number) e) (first-given k rs (f .1)))))
+
+-- ---- 6 and the event's own list
+-- what holds of each kind 0 to 4
+kinds : (P : ℕ → Type 0) → P 0 → P 1 → P 2 → P 3 → P 4 → (k : ℕ) → k < 5 → P k
+kinds P a b c d e k h =
+    from P 4 0 a (from P 4 1 b (from P 4 2 c (from P 4 3 d (from P 4 4 e (λ n x y. absurd (omega arith)))))) k (omega arith) (omega arith)
+
+module _ (l : List Post) (i w : ℕ) where
+  -- at kind k event n is given the first number of the table
+  abbrev At : ℕ → ℕ → Type 0
+  At n k = refusal n k w (at l (neighbour n i) .word) ≡ first (eventReasons n k w (at l (i + 1) .word))
+
+  -- at every kind
+  abbrev AtAll : ℕ → Type 0
+  AtAll n = (k : ℕ) → k < 5 → At n k
+
+  -- every event number
+  own : (n : ℕ) → 1 ≤ n → n ≤ 10 → AtAll n
+  unfolding first eventReasons refusal lacks ownRefusal reverseRefusal normalRefusal announceRefusal releaseRefusal garageRefusal underWayRefusal restoreRefusal hasPassagePedal hasSignalPedal hasGarageRelease neighbour namesSection
+  own =
+      from AtAll 10 1 (kinds (At 1) (simp or-false) (simp or-false) (simp or-false) (simp or-false) (simp or-false))
+      (from AtAll 10 2 (kinds (At 2) refl refl refl refl refl)
+      (from AtAll 10 3 (kinds (At 3) refl refl refl refl refl)
+      (from AtAll 10 4 (kinds (At 4) refl refl refl refl refl)
+      (from AtAll 10 5 (kinds (At 5) (simp or-false) refl (simp or-false) (simp or-false) (simp or-false))
+      (from AtAll 10 6 (kinds (At 6) refl refl refl refl refl)
+      (from AtAll 10 7 (kinds (At 7) refl refl refl refl refl)
+      (from AtAll 10 8 (kinds (At 8) refl refl refl refl refl)
+      (from AtAll 10 9 (kinds (At 9) refl refl refl refl refl)
+      (from AtAll 10 10 (kinds (At 10) refl refl refl refl refl) (λ n x y. absurd (omega arith)))))))))))
+
+-- ---- 1, 3, 2, 5 and 4
+-- one list, then another: the first's numbers go first
+gate-first : (b : Bool) (m x y : ℕ) → eqb m 0 ≡ false → pick (not (eqb (pick b m x) 0)) (pick b m x) y ≡ pick b m (pick (not (eqb x 0)) x y)
+gate-first true m x y e = rw e
+gate-first false m x y e = refl
+
+-- past a reason that does not hold
+past : (b : Bool) (m : ℕ) {x y : ℕ} → (b ≡ false → x ≡ y) → pick b m x ≡ pick b m y
+past true m f = refl
+past false m f = f refl
+
+-- 'no such post, or no such section for 8, 9, 10'
+abbrev Place : ℕ → ℕ → ℕ → Type 0
+Place m i n = not (present m n i) ≡ (not (ltb i m) || (eqb n 8 || eqb n 9 || eqb n 10) && not (ltb (i + 1) m))
+
+no-section : (m i : ℕ) → not (ltb (i + 1) m) ≡ (not (ltb i m) || not (ltb (i + 1) m))
+no-section m i =
+    least-or-below m (i + 1)
+    (λ h. rw (le-ltb (i + 1) m h) (sym (or-true (not (ltb i m)))))
+    (λ h. rw (lt-ltb (i + 1) m h, lt-ltb i m (omega arith)))
+
+place : (m i n : ℕ) → n ≤ 10 → Place m i n
+unfolding present namesSection
+place m i n h =
+    least-or-below 8 n
+    (λ a.
+    from (Place m i) 10 8 (no-section m i)
+    (from (Place m i) 10 9 (no-section m i) (from (Place m i) 10 10 (no-section m i) (λ n x y. absurd (omega arith))))
+    n a h)
+    (λ a. simp (lt-leb 8 n a, ne-eqb n 8 (λ e. omega arith), ne-eqb n 9 (λ e. omega arith), ne-eqb n 10 (λ e. omega arith), or-false))
+
+-- 'its difference from the last, taken round 2^32 and read as a signed number, is below zero'
+stamp : (u t : ℕ) → behind u t ≡ leb (2 ^ 31) ((t + 2 ^ 32 - u) % 2 ^ 32)
+unfolding behind
+stamp u t =
+    least-or-below (2 ^ 31) (apart u t)
+    (λ h. rw (le-ltb (apart u t) (2 ^ 31) h, le-leb (2 ^ 31) (apart u t) h))
+    (λ h. rw (lt-ltb (apart u t) (2 ^ 31) h, lt-leb (2 ^ 31) (apart u t) h) (le-ltb (apart u t) 0 (omega arith)))
+
+-- the post named is of a kind 0 to 4
+kind-there : (l : List Post) (s : Head) (i : ℕ) → not (valid l s) ≡ false → i < length l → at l i .kind < 5
+kind-there l s i v p =
+    kind-small (length l) i (at l i .kind)
+    (valid-iff l s .0 (simp not-false-facts at v) .each i p .kind)
+
+-- the answer is the first number of the table whose reason holds
+answer-first : (l : List Post) (s : Head) (n i t : ℕ) → answerOf l s n i t ≡ first (reasons l s n i t)
+unfolding first reasons answerOf gate numbered
+answer-first l s n i t =
+    past (not (valid l s)) 1
+    (λ v.
+    simp gate-first
+    (past (not (leb 1 n && leb n 10)) 3
+    (λ e.
+    let h = simp facts at e in
+    rw (place (length l) i n (h .1))
+    (past (not (ltb i (length l)) || (eqb n 8 || eqb n 9 || eqb n 10) && not (ltb (i + 1) (length l))) 2
+    (λ p.
+    past (leb 1000000 (s .taken)) 5
+    (λ f.
+    rw stamp
+    (past (leb (2 ^ 31) ((t + 2 ^ 32 - s .last) % 2 ^ 32)) 4
+    (λ b. own l i (at l i .word) n (h .0) (h .1) (at l i .kind) (kind-there l s i v (simp facts at p .0))))))))))
+
+-- ---- by the number
+tests-given : (l : List Post) (s : Head) (n i t k : ℕ) → eqb (answerOf l s n i t) k ≡ given k l s n i t
+unfolding reasons eventReasons once absent
+tests-given l s n i t k = rw answer-first (first-given k (reasons l s n i t) refl)
+
+-- 'Given exactly when': the answer is k exactly when the paper's table gives k
+pub answer-given : (l : List Post) (s : Head) (n i t k : ℕ) → (answerOf l s n i t ≡ k) ↔ (given k l s n i t ≡ true)
+answer-given l s n i t k = rw (← tests-given l s n i t k) (eqb-facts (answerOf l s n i t) k .1, eqb-facts (answerOf l s n i t) k .0)
+
+-- exactly one number is given
+pub one-given : (l : List Post) (s : Head) (n i t : ℕ)
+    → (given (answerOf l s n i t) l s n i t ≡ true) × ((k : ℕ) → given k l s n i t ≡ true → k ≡ answerOf l s n i t)
+one-given l s n i t =
+    (answer-given l s n i t (answerOf l s n i t) .0 refl, λ k e. sym (answer-given l s n i t k .1 e))
