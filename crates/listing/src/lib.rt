@@ -7,12 +7,14 @@ ghost use Rattle.listing.specs.Lines.{ended, eventLine, sectionLine, ref
 ghost use Rattle.listing.specs.Listing.{eventLines, sectionLines, listingOf};
 ghost use Rattle.listing.specs.Texts.{Put};
 use row::Row;
+use sheet::layout::MOST_BYTES;
+use sheet::layout::MOST_ENTRIES;
 
 // Room for any line.
 pub const LINE: usize = 128;
 
 // Room for any listing: a line for each of 3,780 events and 31 sections.
-pub const PAGE: usize = (3780 + 31) * LINE;
+pub const PAGE: usize = (MOST_ENTRIES + 31) * LINE;
 
 // The digits of `n` from `at` on; the place past them.
 fn put_number(out: &mut [u8], at: usize, n: u32) -> usize
@@ -141,14 +143,14 @@ pub fn refused_line(out: &mut [u8; LINE], number: u32, block: u32) -> usize
 pub fn list(s: &[u8], page: &mut [u8; PAGE]) -> usize
     ensures { λ r. ⌜ Lined (listingOf (now (s .entry))) r (now (page .entry)) (now (page .exit)) ⌝ }
 {
-    let mut out = [0u8; 32768];
+    let mut out = [0u8; MOST_BYTES];
     let done = working::work(s, &mut out);
     if done.number != 0 {
         return put_refused(page, done.number, done.block);
     }
     let n = s.len();
     let mut kinds = [0u32; 32];
-    let mut events = [[0u32; 4]; 3780];
+    let mut events = [[0u32; 4]; MOST_ENTRIES];
     let worked = &out[..n];
     let found = sheet::read(worked, &mut kinds, &mut events);
     let m = found.events as usize;

@@ -5,8 +5,17 @@ ghost use lib.ListN.{length};
 ghost use Rattle.relay.specs.Kinds.{tableOk};
 ghost use Rattle.sheet.specs.Reading.{lengthOk, kindsIn, eventsFit, firstBad};
 ghost use Rattle.sheet.specs.Shape.{shapeOf};
+ghost use Rattle.sheet.specs.Layout.{blockBytes, mostBlocks};
 use crate::Verdict;
 use crate::entry;
+use crate::layout::BLOCK_BYTES;
+use crate::layout::BLOCK_WORDS;
+use crate::layout::CHECK_AT;
+use crate::layout::CHECK_BASE;
+use crate::layout::CHECK_WRONG;
+use crate::layout::CONTENTS_WRONG;
+use crate::layout::MOST_BYTES;
+use crate::layout::PER_BLOCK;
 use crate::words;
 
 // What a block must hold before its words are looked at one by one: how many events, and how many words before the zeros. `ok` is false where it departs from the layout.
@@ -19,12 +28,12 @@ pub struct Shape {
 pub fn length_ok(n: usize) -> bool
     ensures { λ r. ⌜ r ≡ lengthOk n ⌝ }
 {
-    (n % 512 == 0) & ((512 <= n) & (n <= 32768))
+    (n % BLOCK_BYTES == 0) & ((BLOCK_BYTES <= n) & (n <= MOST_BYTES))
 }
 
 // Whether starting would accept N and the kinds of block 0.
 pub fn table_in(s: &[u8]) -> bool
-    requires { ⌜ 512 ≤ length (now s) ⌝ }
+    requires { ⌜ blockBytes ≤ length (now s) ⌝ }
     ensures { λ r. ⌜ r ≡ tableOk (kindsIn (now (s .entry))) ⌝ }
 {
     let n = words::get_word(s, 4) as usize;
@@ -43,10 +52,10 @@ pub fn table_in(s: &[u8]) -> bool
 
 // The shape of block `b` of `n`.
 pub fn shape_of(s: &[u8], n: u32, b: u32) -> Shape
-    requires { ⌜ (b < n) × (n ≤ 64) × (n * 512 ≤ length (now s)) ⌝ }
+    requires { ⌜ (b < n) × (n ≤ mostBlocks) × (n * blockBytes ≤ length (now s)) ⌝ }
     ensures { λ r. ⌜ r ≡ shapeOf (now (s .entry)) n b ⌝ }
 {
-    let m = words::get_word(s, b as usize * 512) as usize;
+    let m = words::get_word(s, b as usize * BLOCK_BYTES) as usize;
     if b == 0 {
         if m != 1 {
             return Shape {
@@ -86,12 +95,12 @@ pub fn shape_of(s: &[u8], n: u32, b: u32) -> Shape
 pub fn events_fit(m: usize, last: bool) -> bool
     ensures { λ r. ⌜ r ≡ eventsFit m last ⌝ }
 {
-    (1 <= m) & (m <= 60) & (last | (m == 60))
+    (1 <= m) & (m <= PER_BLOCK) & (last | (m == PER_BLOCK))
 }
 
 // The first bad block of the `n` blocks of `s`, with 19 or 20; check before contents. 0 and 0 where all are good.
 pub fn first_bad(s: &[u8], n: u32) -> Verdict
-    requires { ⌜ (n ≤ 64) × (n * 512 ≤ length (now s)) ⌝ }
+    requires { ⌜ (n ≤ mostBlocks) × (n * blockBytes ≤ length (now s)) ⌝ }
     ensures { λ r. ⌜ r ≡ firstBad (now (s .entry)) n 0 n ⌝ }
 {
     let mut b: u32 = 0;
@@ -102,17 +111,17 @@ pub fn first_bad(s: &[u8], n: u32) -> Verdict
                 block: 0,
             };
         }
-        let at = b as usize * 512;
-        if words::sum_words(s, b as usize, 128) != 317944 + b {
+        let at = b as usize * BLOCK_BYTES;
+        if words::sum_words(s, b as usize, BLOCK_WORDS) != CHECK_BASE + b {
             break 'blocks Verdict {
-                number: 19,
+                number: CHECK_WRONG,
                 block: b,
             };
         }
         let shape = shape_of(s, n, b);
         if !shape.ok {
             break 'blocks Verdict {
-                number: 20,
+                number: CONTENTS_WRONG,
                 block: b,
             };
         }
@@ -121,17 +130,17 @@ pub fn first_bad(s: &[u8], n: u32) -> Verdict
         while j < events {
             if !entry::upper_zero(words::get_word(s, at + (1 + j * 2) * 4)) {
                 break 'blocks Verdict {
-                    number: 20,
+                    number: CONTENTS_WRONG,
                     block: b,
                 };
             }
             j += 1;
         }
         let mut k = shape.used;
-        while k < 127 {
+        while k < CHECK_AT {
             if words::get_word(s, at + k * 4) != 0 {
                 break 'blocks Verdict {
-                    number: 20,
+                    number: CONTENTS_WRONG,
                     block: b,
                 };
             }

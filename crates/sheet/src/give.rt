@@ -1,30 +1,33 @@
 // A good sheet's kinds and events, handed out into lent room.
 ghost use mathlib.Core.Path.{_≡_};
-ghost use Prim.Native.Nat.{_+_, _*_, _/_, _≤_, _<_, ℕ};
+ghost use Prim.Native.Nat.{_+_, _-_, _*_, _/_, _≤_, _<_, ℕ};
 ghost use mathlib.Core.List.{_++_};
 ghost use lib.ListN.{length, drop};
 ghost use Rattle.sheet.specs.Words.{tab};
 ghost use Rattle.sheet.specs.Check.{word};
 ghost use Rattle.sheet.specs.Reading.{entriesIn, entryIn};
+ghost use Rattle.sheet.specs.Layout.{blockBytes, mostBlocks, perBlock, mostEntries};
 use crate::entry;
+use crate::layout::BLOCK_BYTES;
+use crate::layout::PER_BLOCK;
 use crate::words;
 
 // How many events a good sheet has.
 pub fn entries_in(s: &[u8]) -> usize
-    requires { ⌜ length (now s) ≤ 32768 ⌝ }
+    requires { ⌜ length (now s) ≤ mostBlocks * blockBytes ⌝ }
     ensures { λ r. ⌜ r ≡ entriesIn (now (s .entry)) ⌝ }
 {
-    let n = s.len() / 512;
+    let n = s.len() / BLOCK_BYTES;
     if n <= 1 {
         return 0;
     }
     let last = n - 1;
-    (n - 2) * 60 + words::get_word(s, last * 512) as usize
+    (n - 2) * PER_BLOCK + words::get_word(s, last * BLOCK_BYTES) as usize
 }
 
 // The first `n` kinds, to the front of `room`.
 pub fn kinds(s: &[u8], n: usize, room: &mut [u32])
-    requires { ⌜ (n ≤ 32) × (512 ≤ length (now s)) × (n ≤ length (now room)) ⌝ }
+    requires { ⌜ (n ≤ 32) × (blockBytes ≤ length (now s)) × (n ≤ length (now room)) ⌝ }
     ensures { λ _. ⌜ now (room .exit) ≡ tab (λ i. word (now (s .entry)) 0 (3 + i)) n ++ drop n (now (room .entry)) ⌝ }
 {
     let mut i: usize = 0;
@@ -36,12 +39,12 @@ pub fn kinds(s: &[u8], n: usize, room: &mut [u32])
 
 // The first `m` events, to the front of `room`.
 pub fn events(s: &[u8], m: usize, room: &mut [[u32; 4]])
-    requires { ⌜ (m ≤ 3780) × ((m + 59) / 60 * 512 + 512 ≤ length (now s)) × (m ≤ length (now room)) ⌝ }
+    requires { ⌜ (m ≤ mostEntries) × ((m + (perBlock - 1)) / perBlock * blockBytes + blockBytes ≤ length (now s)) × (m ≤ length (now room)) ⌝ }
     ensures { λ _. ⌜ now (room .exit) ≡ tab (entryIn (now (s .entry))) m ++ drop m (now (room .entry)) ⌝ }
 {
     let mut i: usize = 0;
     while i < m {
-        let at = (1 + i / 60) * 512 + (1 + i % 60 * 2) * 4;
+        let at = (1 + i / PER_BLOCK) * BLOCK_BYTES + (1 + i % PER_BLOCK * 2) * 4;
         let w = words::get_word(s, at);
         let t = words::get_word(s, at + 4);
         room[i] = [

@@ -7,8 +7,16 @@ ghost use Rattle.sheet.specs.Reading.{verdictOf, refused, verdict, Reads
 mod blocks;
 mod entry;
 mod give;
+pub mod layout;
 mod put;
 mod words;
+
+use layout::BLOCK_BYTES;
+use layout::CONTENTS_WRONG;
+use layout::LENGTH_WRONG;
+use layout::MOST_ENTRIES;
+use layout::PER_BLOCK;
+use layout::ROOM_SHORT;
 
 // A refusal of reading, with its block, or 0 and 0.
 #[repr(C)]
@@ -34,11 +42,11 @@ pub fn test(s: &[u8]) -> Verdict
     let n = s.len();
     if !blocks::length_ok(n) {
         return Verdict {
-            number: 18,
+            number: LENGTH_WRONG,
             block: 0,
         };
     }
-    blocks::first_bad(s, (n / 512) as u32)
+    blocks::first_bad(s, (n / BLOCK_BYTES) as u32)
 }
 
 // What a refusal of reading returns.
@@ -66,10 +74,10 @@ pub fn read(s: &[u8], kinds: &mut [u32], events: &mut [[u32; 4]]) -> Found
     let n = words::get_word(s, 4) as usize;
     let m = give::entries_in(s);
     if kinds.len() < n {
-        return refuse(21, 0);
+        return refuse(ROOM_SHORT, 0);
     }
     if events.len() < m {
-        return refuse(21, 0);
+        return refuse(ROOM_SHORT, 0);
     }
     give::kinds(s, n, kinds);
     give::events(s, m, events);
@@ -87,18 +95,18 @@ pub fn write(kinds: &[u32], stamp: u32, events: &[[u32; 4]], out: &mut [u8]) -> 
     ensures { λ r. ⌜ Writes (record { stamp = stamp; kinds = now (kinds .entry); events = now (events .entry) }) r (now (out .entry)) (now (out .exit)) ⌝ }
 {
     if !line::may_start(kinds.len(), kinds) {
-        return 1;
+        return relay::NOT_VALID;
     }
     if !put::all_in_fields(events) {
-        return 20;
+        return CONTENTS_WRONG;
     }
     let m = events.len();
-    if m > 3780 {
-        return 18;
+    if m > MOST_ENTRIES {
+        return LENGTH_WRONG;
     }
-    let n = (m + 59) / 60;
-    if out.len() < 512 + n * 512 {
-        return 21;
+    let n = (m + (PER_BLOCK - 1)) / PER_BLOCK;
+    if out.len() < BLOCK_BYTES + n * BLOCK_BYTES {
+        return ROOM_SHORT;
     }
     put::head(kinds, stamp, out);
     let mut c: usize = 0;

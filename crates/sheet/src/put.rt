@@ -8,7 +8,13 @@ ghost use Rattle.sheet.specs.Check.{sum, word, seal};
 ghost use Rattle.sheet.specs.Sheet.{held};
 ghost use Rattle.sheet.specs.Writing.{allInFields};
 ghost use Rattle.sheet.specs.Puts.{puts, putBlock, headOnly, eventsOnly};
+ghost use Rattle.sheet.specs.Layout.{blockBytes, checkAt, mostBlocks, perBlock};
 use crate::entry;
+use crate::layout::BLOCK_BYTES;
+use crate::layout::CHECK_AT;
+use crate::layout::CHECK_BASE;
+use crate::layout::CHECK_OFFSET;
+use crate::layout::PER_BLOCK;
 use crate::words;
 
 // Every event is in its fields.
@@ -27,21 +33,21 @@ pub fn all_in_fields(events: &[[u32; 4]]) -> bool
 
 // How many of `n` events stand in event block `c`.
 fn held_in(n: usize, c: usize) -> usize
-    requires { ⌜ c * 60 ≤ n ⌝ }
+    requires { ⌜ c * perBlock ≤ n ⌝ }
     ensures { λ r. ⌜ r ≡ held n c ⌝ }
 {
-    let left = n - c * 60;
-    if left < 60 { left } else { 60 }
+    let left = n - c * PER_BLOCK;
+    if left < PER_BLOCK { left } else { PER_BLOCK }
 }
 
 // Zeros from word `k` up to word 126 of block `b`.
 fn clear(out: &mut [u8], b: usize, k: usize)
-    requires { ⌜ (b < 64) × ((k ≤ 127) × (b * 512 + 512 ≤ length (now out))) ⌝ }
-    ensures { λ _. ⌜ now (out .exit) ≡ puts (λ (i : ℕ). 0) (b * 512 + k * 4) (127 - k) (now (out .entry)) ⌝ }
+    requires { ⌜ (b < mostBlocks) × ((k ≤ checkAt) × (b * blockBytes + blockBytes ≤ length (now out))) ⌝ }
+    ensures { λ _. ⌜ now (out .exit) ≡ puts (λ (i : ℕ). 0) (b * blockBytes + k * 4) (checkAt - k) (now (out .entry)) ⌝ }
 {
-    let at = b * 512;
+    let at = b * BLOCK_BYTES;
     let mut i = k;
-    while i < 127 {
+    while i < CHECK_AT {
         words::put_word(out, at + i * 4, 0);
         i += 1;
     }
@@ -49,20 +55,20 @@ fn clear(out: &mut [u8], b: usize, k: usize)
 
 // Sets word 127 of block `b`, so that the block checks.
 fn set_check(out: &mut [u8], b: usize)
-    requires { ⌜ (b < 64) × (b * 512 + 512 ≤ length (now out)) ⌝ }
-    ensures { λ _. ⌜ now (out .exit) ≡ putWord (now (out .entry)) (b * 512 + 508) (seal (sum (word (now (out .entry)) b) 127) b) ⌝ }
+    requires { ⌜ (b < mostBlocks) × (b * blockBytes + blockBytes ≤ length (now out)) ⌝ }
+    ensures { λ _. ⌜ now (out .exit) ≡ putWord (now (out .entry)) (b * blockBytes + checkAt * 4) (seal (sum (word (now (out .entry)) b) checkAt) b) ⌝ }
 {
-    let total = words::sum_words(out, b, 127);
+    let total = words::sum_words(out, b, CHECK_AT);
     words::put_word(
         out,
-        b * 512 + 508,
-        std::num::wrapping_sub_u32(317944 + b as u32, total),
+        b * BLOCK_BYTES + CHECK_OFFSET,
+        std::num::wrapping_sub_u32(CHECK_BASE + b as u32, total),
     );
 }
 
 // Block 0.
 pub fn head(kinds: &[u32], stamp: u32, out: &mut [u8])
-    requires { ⌜ (length (now kinds) ≤ 32) × (512 ≤ length (now out)) ⌝ }
+    requires { ⌜ (length (now kinds) ≤ 32) × (blockBytes ≤ length (now out)) ⌝ }
     ensures { λ _. ⌜ now (out .exit) ≡ putBlock (headOnly stamp (now (kinds .entry))) 0 (now (out .entry)) ⌝ }
 {
     let n = kinds.len();
@@ -80,17 +86,17 @@ pub fn head(kinds: &[u32], stamp: u32, out: &mut [u8])
 
 // Event block `c`, which is block `c + 1`.
 pub fn events(events: &[[u32; 4]], c: usize, out: &mut [u8])
-    requires { ⌜ (c < 63) × ((c * 60 ≤ length (now events)) × ((c + 1) * 512 + 512 ≤ length (now out))) ⌝ }
+    requires { ⌜ (c + 1 < mostBlocks) × ((c * perBlock ≤ length (now events)) × ((c + 1) * blockBytes + blockBytes ≤ length (now out))) ⌝ }
     requires { ⌜ allInFields (now events) ≡ true ⌝ }
     ensures { λ _. ⌜ now (out .exit) ≡ putBlock (eventsOnly (now (events .entry))) (c + 1) (now (out .entry)) ⌝ }
 {
     let b = c + 1;
-    let at = b * 512;
+    let at = b * BLOCK_BYTES;
     let m = held_in(events.len(), c);
     words::put_word(out, at, m as u32);
     let mut j: usize = 0;
     while j < m {
-        let e = events[c * 60 + j];
+        let e = events[c * PER_BLOCK + j];
         words::put_word(out, at + 4 + j * 8, entry::pack(e[0], e[1], e[2]));
         words::put_word(out, at + 8 + j * 8, e[3]);
         j += 1;

@@ -4,6 +4,8 @@ ghost use Prim.Native.Nat.{_+_, _*_, _≤_, _<_, _%_, _^_};
 ghost use lib.ListN.{length};
 ghost use Rattle.sheet.specs.Words.{le32, wordAt, putWord};
 ghost use Rattle.sheet.specs.Check.{sum, word, seal};
+ghost use Rattle.sheet.specs.Layout.{blockBytes, blockWords, mostBlocks};
+use crate::layout::BLOCK_BYTES;
 
 // The word of four bytes, the lowest first.
 pub fn word_of(a: u8, b: u8, c: u8, d: u8) -> u32
@@ -33,10 +35,10 @@ pub fn put_word(s: &mut [u8], at: usize, w: u32)
 
 // The sum of the first `n` words of block `b`, carried round at 2^32.
 pub fn sum_words(s: &[u8], b: usize, n: usize) -> u32
-    requires { ⌜ (b < 64) × (n ≤ 128) × (b * 512 + 512 ≤ length (now s)) ⌝ }
+    requires { ⌜ (b < mostBlocks) × (n ≤ blockWords) × (b * blockBytes + blockBytes ≤ length (now s)) ⌝ }
     ensures { λ r. ⌜ r ≡ sum (word (now (s .entry)) b) n % 2 ^ 32 ⌝ }
 {
-    let at = b * 512;
+    let at = b * BLOCK_BYTES;
     let mut total: u32 = 0;
     let mut k: usize = 0;
     while k < n {

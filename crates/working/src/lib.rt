@@ -8,6 +8,11 @@ ghost use Rattle.working.specs.Working.{ranOf, ranEvents, firstAnswered,
 use relay::Head;
 use relay::Post;
 use row::Row;
+use sheet::layout::CONTENTS_WRONG;
+use sheet::layout::MOST_ENTRIES;
+use sheet::layout::PER_BLOCK;
+use sheet::layout::ROOM_SHORT;
+use sheet::layout::UNANSWERED;
 
 // What a run returns: 0 or 1, and the row and head at the end.
 pub struct Ran {
@@ -35,7 +40,7 @@ pub fn run(kinds: &[u32], stamp: u32, events: &mut [[u32; 4]]) -> Ran
     let mut s = told.head;
     if told.answer != 0 {
         return Ran {
-            number: 1,
+            number: relay::NOT_VALID,
             row: row,
             head: s,
         };
@@ -64,7 +69,7 @@ pub fn first_answered(events: &[[u32; 4]]) -> usize
     let mut i: usize = 0;
     while i < events.len() {
         let e = events[i];
-        if e[2] != 31 {
+        if e[2] != UNANSWERED {
             return i;
         }
         i += 1;
@@ -91,7 +96,7 @@ pub fn work(s: &[u8], out: &mut [u8]) -> Worked
     ensures { λ r. ⌜ Works (now (s .entry)) r (now (out .entry)) (now (out .exit)) ⌝ }
 {
     let mut kinds = [0u32; 32];
-    let mut events = [[0u32; 4]; 3780];
+    let mut events = [[0u32; 4]; MOST_ENTRIES];
     let found = sheet::read(s, &mut kinds, &mut events);
     if found.number != 0 {
         return refuse(found.number, found.block);
@@ -100,10 +105,10 @@ pub fn work(s: &[u8], out: &mut [u8]) -> Worked
     let m = found.events as usize;
     let i = first_answered(&events[..m]);
     if i < m {
-        return refuse(20, 1 + (i / 60) as u32);
+        return refuse(CONTENTS_WRONG, 1 + (i / PER_BLOCK) as u32);
     }
     if out.len() < s.len() {
-        return refuse(21, 0);
+        return refuse(ROOM_SHORT, 0);
     }
     let ran = run(&kinds[..n], found.stamp, &mut events[..m]);
     sheet::write(&kinds[..n], found.stamp, &events[..m], out);

@@ -61,6 +61,9 @@ returns-3 c =
     (sym (e .before .all-in-fields .ensures) ∙ not-false _ (e .if2 .left))
     (omega arith)
 
+sub-n : tie.Need-sub-n Inv-loop μ-loop
+sub-n c = search needs
+
 add-n : tie.Need-add-n Inv-loop μ-loop
 add-n c = search needs
 
@@ -144,6 +147,7 @@ write-spec =
     all-in-fields-requires
     returns-2
     returns-3
+    sub-n
     add-n
     mul-if4
     add-if4

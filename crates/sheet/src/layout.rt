@@ -1,0 +1,35 @@
+// The numbers of the event sheet, each named once. 01, 'The event sheet' and 'Numbers returned'; specs/Layout.antt has the same.
+// A block is 128 words of four bytes.
+pub const BLOCK_WORDS: usize = 128;
+
+pub const BLOCK_BYTES: usize = 512;
+
+// The last word of a block is its check.
+pub const CHECK_AT: usize = 127;
+
+pub const CHECK_OFFSET: usize = CHECK_AT * 4;
+
+// What the words of a block add up to, less the block's number.
+pub const CHECK_BASE: u32 = 317944;
+
+// A sheet is 1 to 64 blocks.
+pub const MOST_BLOCKS: usize = 64;
+
+pub const MOST_BYTES: usize = MOST_BLOCKS * BLOCK_BYTES;
+
+// Events in a full block, and in a full sheet.
+pub const PER_BLOCK: usize = 60;
+
+pub const MOST_ENTRIES: usize = 3780;
+
+// The answer of an event that is not yet answered.
+pub const UNANSWERED: u32 = 31;
+
+// The numbers returned.
+pub const LENGTH_WRONG: u32 = 18;
+
+pub const CHECK_WRONG: u32 = 19;
+
+pub const CONTENTS_WRONG: u32 = 20;
+
+pub const ROOM_SHORT: u32 = 21;
