@@ -1,8 +1,8 @@
--- The answer to an event is the number that the paper's table gives it, for every line, head, event, place and stamp; and the table gives exactly one.
+-- The answer to an event is the number that the paper's table gives it, for every line, head, event, place and stamp; and the table gives exactly one. So is the answer on starting.
 -- It holds down the order of the table; from 6 on event by event and kind by kind, where all but the relays computes.
 use Prim.Native.Nat.{ℕ, _+_, _-_, _%_, _^_, _≤_, _<_}
-use mathlib.Core.Path.{_≡_, refl, sym, _∙_}
-use mathlib.Core.Bool.{Bool, true, false, not, _&&_, _||_, or-false, or-true}
+use mathlib.Core.Path.{_≡_, refl, sym, ap, _∙_}
+use mathlib.Core.Bool.{Bool, true, false, not, _&&_, _||_, or-false, or-true, and-true}
 use mathlib.Core.List.{List, [], _∷_}
 use mathlib.Core.Logic.{_↔_}
 use native.Mathlib.Omega.{arith}
@@ -12,9 +12,9 @@ use lib.ListN.{length}
 use Rattle.relay.specs.Choice.{pick}
 use Rattle.relay.specs.Clock.{apart, behind}
 use Rattle.relay.specs.Events.{refusal, lacks, ownRefusal, reverseRefusal, normalRefusal, announceRefusal, releaseRefusal, garageRefusal, underWayRefusal, restoreRefusal}
-use Rattle.relay.specs.Given.{Row, eventReasons, reasons, givenBy, given}
-use Rattle.relay.specs.Kinds.{hasSignalPedal, hasPassagePedal, hasGarageRelease}
-use Rattle.relay.specs.Line.{numbered, namesSection, present, neighbour, gate, answerOf}
+use Rattle.relay.specs.Given.{Row, eventReasons, reasons, givenBy, given, othersRight, kindsRight, tableWrong, startReasons}
+use Rattle.relay.specs.Kinds.{hasSignalPedal, hasPassagePedal, hasGarageRelease, between, countFits, kindFits, kindsFit, tableOk}
+use Rattle.relay.specs.Line.{numbered, namesSection, present, neighbour, gate, answerOf, After, startable, startOf}
 use Rattle.relay.specs.Posts.{at}
 use Rattle.relay.specs.Valid.{valid}
 use Rattle.relay.specs.declared.Head.{Head}
@@ -25,17 +25,17 @@ use Rattle.relay.proofs.Truth.{facts, and-facts, not-facts, not-false-f
 
 -- ---- the table as a list of refusals
 -- the number of the first reason that holds, 0 where none does
-unfoldable first : List Row → ℕ
+unfoldable pub first : List Row → ℕ
 first [] = 0
 first (r ∷ rs) = pick (r .reason) (r .number) (first rs)
 
 -- k stands in no row, and is not 0
-unfoldable absent : ℕ → List Row → Bool
+unfoldable pub absent : ℕ → List Row → Bool
 absent k [] = not (eqb k 0)
 absent k (r ∷ rs) = not (eqb k (r .number)) && absent k rs
 
 -- no number stands in two rows, nor 0 in any
-unfoldable once : List Row → Bool
+unfoldable pub once : List Row → Bool
 once [] = true
 once (r ∷ rs) = absent (r .number) rs && once rs
 
@@ -55,10 +55,10 @@ chosen true = refl
 chosen false = refl
 
 -- the first number is k exactly when k is given
-first-given : (k : ℕ) (rs : List Row) → once rs ≡ true → eqb (first rs) k ≡ givenBy rs k
+first-test : (k : ℕ) (rs : List Row) → once rs ≡ true → eqb (first rs) k ≡ givenBy rs k
 unfolding first once givenBy
-first-given k [] e = eqb-sym 0 k
-first-given k (r ∷ rs) e =
+first-test k [] e = eqb-sym 0 k
+first-test k (r ∷ rs) e =
     let f = and-facts (absent (r .number) rs) (once rs) .0 e in
     split (r .reason)
     (λ b. rw b (eqb-sym (r .number) k ∙ chosen (eqb k (r .number))))
@@ -66,7 +66,11 @@ first-given k (r ∷ rs) e =
     rw b
     (equal-or-not k (r .number)
     (λ e. rw (eq-eqb k (r .number) e) (rw e (not-first (r .number) rs (f .0))))
-    (λ e. rw (ne-eqb k (r .number) e) (first-given k rs (f .1)))))
+    (λ e. rw (ne-eqb k (r .number) e) (first-test k rs (f .1)))))
+
+-- a number that is the first of a table is k exactly when the table gives k
+pub first-given : {n : ℕ} (k : ℕ) (rs : List Row) → once rs ≡ true → n ≡ first rs → (n ≡ k) ↔ (givenBy rs k ≡ true)
+first-given {n} k rs e f = rw (← first-test k rs e, ← f) (eqb-facts n k .1, eqb-facts n k .0)
 
 -- ---- 6 and the event's own list
 -- what holds of each kind 0 to 4
@@ -163,16 +167,52 @@ answer-first l s n i t =
     (λ b. own l i (at l i .word) n (h .0) (h .1) (at l i .kind) (kind-there l s i v (simp facts at p .0))))))))))
 
 -- ---- by the number
-tests-given : (l : List Post) (s : Head) (n i t k : ℕ) → eqb (answerOf l s n i t) k ≡ given k l s n i t
-unfolding reasons eventReasons once absent
-tests-given l s n i t k = rw answer-first (first-given k (reasons l s n i t) refl)
-
 -- 'Given exactly when': the answer is k exactly when the paper's table gives k
 pub answer-given : (l : List Post) (s : Head) (n i t k : ℕ) → (answerOf l s n i t ≡ k) ↔ (given k l s n i t ≡ true)
-answer-given l s n i t k = rw (← tests-given l s n i t k) (eqb-facts (answerOf l s n i t) k .1, eqb-facts (answerOf l s n i t) k .0)
+unfolding reasons eventReasons once absent
+answer-given l s n i t k = first-given k (reasons l s n i t) refl (answer-first l s n i t)
 
 -- exactly one number is given
 pub one-given : (l : List Post) (s : Head) (n i t : ℕ)
     → (given (answerOf l s n i t) l s n i t ≡ true) × ((k : ℕ) → given k l s n i t ≡ true → k ≡ answerOf l s n i t)
 one-given l s n i t =
     (answer-given l s n i t (answerOf l s n i t) .0 refl, λ k e. sym (answer-given l s n i t k .1 e))
+
+-- ---- on starting
+-- the posts past the first
+others : (n i : ℕ) (ks : List ℕ) → 1 ≤ i → 1 ≤ length ks → i + length ks ≡ n → kindsFit n i ks ≡ othersRight ks
+unfolding kindsFit othersRight kindFits between
+others n i [] a b e = absurd (omega arith)
+others n i (k ∷ []) a b e = rw (ne-eqb i 0 (λ z. omega arith), eq-eqb (i + 1) n (omega arith)) (and-true (eqb k 1))
+others n i (k ∷ j ∷ ks) a b e =
+    rw (ne-eqb i 0 (λ z. omega arith), ne-eqb (i + 1) n (λ z. omega arith))
+    (ap (λ (t : Bool). between k && t) (others n (i + 1) (j ∷ ks) (omega arith) (omega arith) (omega arith)))
+
+-- not both
+not-both : (a b : Bool) → not (a && b) ≡ (not b || not a)
+not-both true true = refl
+not-both true false = refl
+not-both false true = refl
+not-both false false = refl
+
+-- a table of kinds is wrong exactly when the paper's sentence says so
+pub table-wrong : (ks : List ℕ) → not (tableOk ks) ≡ tableWrong ks
+unfolding tableOk countFits kindsFit kindFits tableWrong kindsRight othersRight
+table-wrong [] = refl
+table-wrong (k ∷ []) = sym (or-true (not (eqb k 0 && false)))
+table-wrong (k ∷ j ∷ ks) =
+    let n = length (k ∷ j ∷ ks) in
+    rw (← others n 1 (j ∷ ks) (omega arith) (omega arith) (omega arith)) (not-both (leb 2 n && leb n 32) (eqb k 0 && kindsFit n 1 (j ∷ ks)))
+
+-- the answer by two tests that must both pass
+either-fails : (a b : Bool) (x y : After) → pick (a && b) x y .told .answer ≡ pick (not b || not a) (y .told .answer) (x .told .answer)
+either-fails true true x y = refl
+either-fails true false x y = refl
+either-fails false true x y = refl
+either-fails false false x y = refl
+
+-- the answer is k exactly when the paper's table gives k
+pub start-given : (l : List Post) (ks : List ℕ) (t k : ℕ) → (startOf l ks t .told .answer ≡ k) ↔ (givenBy (startReasons l ks) k ≡ true)
+unfolding startReasons once absent first startOf startable
+start-given l ks t k =
+    first-given k (startReasons l ks) refl (rw (← table-wrong ks) (either-fails (eqb (length l) (length ks)) (tableOk ks) _ _))

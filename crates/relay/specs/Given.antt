@@ -1,10 +1,10 @@
--- The numbers returned to an event, by the number. 01, 'Numbers returned': 'No. | Given exactly when', and the refusals that 'Events' names.
+-- The numbers returned to an event and on starting, by the number. 01, 'Numbers returned': 'No. | Given exactly when', and the refusals that 'Events' names.
 -- A second reading of the paper: specs/Events.antt goes by the event and says which number it is given; this goes by the number and says
 -- which events are given it, at which kinds and with which relays. It is typed from the paper's table and lists, with the paper's own numbers,
 -- and cites none of the refusals there. That the two agree stands in proofs/Given.antt.
 -- Assumes nothing.
 use Prim.Native.Nat.{ℕ, _+_, _-_, _%_, _^_}
-use mathlib.Core.Bool.{Bool, not, _&&_, _||_}
+use mathlib.Core.Bool.{Bool, true, false, not, _&&_, _||_}
 use mathlib.Core.List.{List, [], _∷_}
 use lib.Dec.{eqb, ltb, leb}
 use lib.ListN.{length}
@@ -73,3 +73,23 @@ givenBy (r ∷ rs) k = pick (eqb k (r .number)) (r .reason) (not (r .reason) && 
 -- number k is given to event n, which names the post or section i, with stamp t
 abbrev pub given : ℕ → List Post → Head → ℕ → ℕ → ℕ → Bool
 given k l s n i t = givenBy (reasons l s n i t) k
+
+-- ---- on starting
+-- 'all others have 2, 3 or 4', 'the last has kind 1': the kinds past the first
+unfoldable pub othersRight : List ℕ → Bool
+othersRight [] = false
+othersRight (k ∷ []) = eqb k 1
+othersRight (k ∷ j ∷ ks) = (eqb k 2 || (eqb k 3 || eqb k 4)) && othersRight (j ∷ ks)
+
+-- 'Post 0 has kind 0'
+unfoldable pub kindsRight : List ℕ → Bool
+kindsRight [] = false
+kindsRight (k ∷ ks) = eqb k 0 && othersRight ks
+
+-- 'the table of kinds wrong or N outside 2 to 32'
+unfoldable pub tableWrong : List ℕ → Bool
+tableWrong ks = not (kindsRight ks) || not (leb 2 (length ks) && leb (length ks) 32)
+
+-- 'on starting, row and table of different lengths'
+unfoldable pub startReasons : List Post → List ℕ → List Row
+startReasons l ks = row 1 (tableWrong ks || not (eqb (length l) (length ks))) ∷ []
