@@ -88,8 +88,8 @@ kindsRight (k ∷ ks) = eqb k 0 && othersRight ks
 
 -- 'the table of kinds wrong or N outside 2 to 32'
 unfoldable pub tableWrong : List ℕ → Bool
-tableWrong ks = not (kindsRight ks) || not (leb 2 (length ks) && leb (length ks) 32)
+tableWrong ks = not (leb 2 (length ks) && leb (length ks) 32) || not (kindsRight ks)
 
 -- 'on starting, row and table of different lengths'
 unfoldable pub startReasons : List Post → List ℕ → List Row
-startReasons l ks = row 1 (tableWrong ks || not (eqb (length l) (length ks))) ∷ []
+startReasons l ks = row 1 (not (eqb (length l) (length ks)) || tableWrong ks) ∷ []

@@ -66,7 +66,8 @@ sheet-by s false e = subst (NamedSheet s) (sym (wrong-length s e)) (bad-length e
 pub named-sheet : (s : List ℕ) → NamedSheet s (verdictOf s)
 named-sheet s = sheet-by s (lengthOk (length s)) refl
 
--- ---- no block is named exactly when all are good
+-- ---- and what may be named is what reading names
+-- no block is named where all are good
 all-named : (s : List ℕ) (n b m : ℕ) → AllGood s n b (b + m) → firstBad s n b m ≡ verdict 0 0
 unfolding firstBad
 all-named s n b zero f = refl
@@ -74,17 +75,42 @@ all-named s n b (suc m) f =
     let g = f b (omega arith) (omega arith) in
     rw (g .checked, g .filled) (all-named s n (b + 1) m (λ j p q. f j (omega arith) (omega arith)))
 
+-- a block after good ones, at which reading stops with v whatever follows, is named so
+stops : (s : List ℕ) (n b m x : ℕ) (v : Verdict) → b ≤ x → x < b + m → AllGood s n b x
+    → ((r : Verdict) → pick (not (checks s x)) (verdict checkWrong x) (pick (not (contentsOk s n x)) (verdict contentsWrong x) r) ≡ v)
+    → firstBad s n b m ≡ v
+unfolding firstBad
+stops s n b zero x v h k f bad = absurd (omega arith)
+stops s n b (suc m) x v h k f bad =
+    ⊎-elim
+    (λ (e : b ≡ x). rw e (bad (firstBad s n (x + 1) m)))
+    (λ (l : b < x).
+    let g = f b (omega arith) l in
+    rw (g .checked, g .filled) (stops s n (b + 1) m x v (omega arith) (omega arith) (λ j p q. f j (omega arith) q) bad))
+    (eq-or-lt-of-le h)
+
+all-names : (s : List ℕ) (n : ℕ) (v : Verdict) → Named s n 0 n v → firstBad s n 0 n ≡ v
+all-names s n v (all-good f) = all-named s n 0 n (λ j p q. f j p (omega arith))
+all-names s n v (bad-check x p q f c) = stops s n 0 n x (verdict checkWrong x) p (omega arith) f (λ r. rw c)
+all-names s n v (bad-contents x p q f c d) = stops s n 0 n x (verdict contentsWrong x) p (omega arith) f (λ r. rw (c, d))
+
+names-sheet : (s : List ℕ) (v : Verdict) → NamedSheet s v → verdictOf s ≡ v
+names-sheet s v (bad-length e) = wrong-length s e
+names-sheet s v (blocks e b) = right-length s e ∙ all-names s (blocksIn (length s)) v b
+
+-- 18, 19 and 20 'given exactly when', with the block: a verdict is that of reading exactly when it may be named
+pub verdict-iff : (s : List ℕ) (v : Verdict) → (verdictOf s ≡ v) ↔ NamedSheet s v
+verdict-iff s v = (λ e. subst (NamedSheet s) e (named-sheet s), names-sheet s v)
+
 none-named : (s : List ℕ) (v : Verdict) → NamedSheet s v → v .number ≡ 0 → (lengthOk (length s) ≡ true) × AllGood s (blocksIn (length s)) 0 (blocksIn (length s))
 none-named s v (bad-length e) z = absurd (omega arith)
 none-named s v (blocks e (all-good f)) z = (e, f)
 none-named s v (blocks e (bad-check x a y f c)) z = absurd (omega arith)
 none-named s v (blocks e (bad-contents x a y f c d)) z = absurd (omega arith)
 
+-- a sheet is accepted exactly when its length is right and all its blocks are good
 pub good-blocks : (s : List ℕ) → (verdictOf s .number ≡ 0) ↔ ((lengthOk (length s) ≡ true) × AllGood s (blocksIn (length s)) 0 (blocksIn (length s)))
 good-blocks s = (
   none-named s (verdictOf s) (named-sheet s),
-  λ g.
-      let n = blocksIn (length s) in
-      let f : AllGood s n 0 (0 + n) = λ j p q. g .1 j p (omega arith) in
-      rw (right-length s (g .0), all-named s n 0 n f),
+  λ g. ap (λ (v : Verdict). v .number) (names-sheet s (verdict 0 0) (blocks (g .0) (all-good (g .1)))),
 )

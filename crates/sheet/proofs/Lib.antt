@@ -5,6 +5,7 @@ pub mod Contents
 pub mod Damage
 pub mod Fields
 pub mod First
+pub mod Given
 pub mod Good
 pub mod Laid
 pub mod Lengths

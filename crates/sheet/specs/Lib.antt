@@ -7,3 +7,4 @@ pub mod Puts
 pub mod Reading
 pub mod Shape
 pub mod Writing
+pub mod Given
