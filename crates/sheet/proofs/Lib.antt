@@ -1,6 +1,7 @@
 pub mod Accepts
 pub mod BlockWords
 pub mod Bytes
+pub mod Calls
 pub mod Contents
 pub mod Damage
 pub mod Fields

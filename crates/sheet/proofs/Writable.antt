@@ -46,6 +46,27 @@ not-refused t m e =
     let c = gate (leb (length (t .events)) mostEntries) 17 _ (b .1) in
     (a .0, b .0, leb-true (length (t .events)) mostEntries (c .0))
 
+-- what the numbers of a sheet are by the types of what is lent to be written: four to an event, and each of 32 bits
+pub record Typed (t : Sheet) : Type 0 where
+  pub stamp : t .stamp < 2 ^ 32
+  pub kinds : Below (2 ^ 32) (t .kinds)
+  pub four : (i : ℕ) → i < length (t .events) → length (eventAt t i) ≡ 4
+  pub stamps : (i : ℕ) → i < length (t .events) → stampOf (eventAt t i) < 2 ^ 32
+
+-- a sheet that writing took can be written
+pub took : (t : Sheet) (m : ℕ) → Typed t → writeNumber t m ≡ 0 → Writable t
+took t m y e =
+    let n = not-refused t m e in
+    record {
+      table = n .0;
+      fields = n .1;
+      most = n .2;
+      stamp = y .stamp;
+      kinds = y .kinds;
+      four = y .four;
+      stamps = y .stamps;
+    }
+
 below-pick : (m : ℕ) (t : Bool) (x y : ℕ) → x < m → y < m → pick t x y < m
 below-pick m true x y a b = a
 below-pick m false x y a b = b
