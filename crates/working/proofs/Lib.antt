@@ -4,3 +4,4 @@ pub mod Answers
 pub mod Works
 pub mod Twice
 pub mod One
+pub mod Named

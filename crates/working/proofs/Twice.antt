@@ -13,7 +13,6 @@ use borrow.Author.Tests.{eq-eqb, ne-eqb, eqb-true, lt-ltb}
 use lib.Dec.{eqb}
 use lib.ListN.{length, getD}
 use Rattle.relay.proofs.Frame.{answer-is, answer-small}
-use Rattle.relay.proofs.Truth.{split}
 use Rattle.relay.specs.Line.{After}
 use Rattle.sheet.proofs.Accepts.{accepted-good}
 use Rattle.sheet.proofs.Bytes.{Below}
@@ -27,6 +26,7 @@ use Rattle.sheet.specs.Entry.{numberOf, postOf, answerOf, stampOf}
 use Rattle.sheet.specs.Layout.{perBlock, unanswered, contentsWrong}
 use Rattle.sheet.specs.Reading.{verdict, verdictOf, blocksIn, entriesIn, entryIn, decode}
 use Rattle.sheet.specs.Sheet.{Sheet, encode}
+use Rattle.working.proofs.Answers.{unanswered-before}
 use Rattle.working.proofs.Steps.{answered-long}
 use Rattle.working.proofs.Works.{fields-kept}
 use Rattle.working.specs.Run.{begun, next, answeredBy, answered}
@@ -53,16 +53,6 @@ first-of a (e ∷ es) h =
     let l = a .line in
     let s = a .told .head in
     rw (ne-eqb (next a e .told .answer) unanswered (λ q. omega (arith, q, answer-is l s (numberOf e) (postOf e) (stampOf e), answer-small l s (numberOf e) (postOf e) (stampOf e))))
-
--- no event is answered
-first-stays : (e : List ℕ) (es : List (List ℕ)) → length (e ∷ es) ≤ firstAnswered (e ∷ es) → (answerOf e ≡ unanswered) × (length es ≤ firstAnswered es)
-unfolding firstAnswered
-first-stays e es f = split (eqb (answerOf e) unanswered) (λ t. (eqb-true (answerOf e) unanswered t, omega (arith, rw t at f))) (λ t. absurd (omega (arith, rw t at f)))
-
-none-answered : (es : List (List ℕ)) → length es ≤ firstAnswered es → (i : ℕ) → i < length es → answerOf (getD es i []) ≡ unanswered
-none-answered [] f i h = absurd (omega (arith, h))
-none-answered (e ∷ es) f zero h = first-stays e es f .0
-none-answered (e ∷ es) f (suc i) h = none-answered es (first-stays e es f .1) i (omega arith)
 
 blank-same : (es : List (List ℕ)) → ((i : ℕ) → i < length es → answeredBy (getD es i []) unanswered ≡ getD es i []) → blank es ≡ es
 unfolding blank
@@ -104,7 +94,7 @@ module _ (s : List ℕ) (small : Below 256 s) (z : verdictOf s .number ≡ 0) wh
   set-back fresh =
       let same : blank es ≡ es =
       blank-same es (λ i h.
-      let q : answerOf (entryIn s i) ≡ unanswered = rw (said i h) at (none-answered es fresh i h) in
+      let q : answerOf (entryIn s i) ≡ unanswered = rw (said i h) at (unanswered-before es i (omega arith) h) in
       rw (said i h, q)) in
       rw (only-answers b es, same) (read-written s small z)
 

@@ -1,0 +1,166 @@
+-- What working refuses, and with which block, exactly when: by the words of the sheet's blocks, with no event's place in the sheet reckoned.
+-- An event of the sheet stands in one block at one place, and each place of a block up to its number is an event; so the first answered event stands in the first block that has one.
+-- Assumes nothing.
+use Prim.Native.Nat.{ℕ, _+_, _-_, _*_, _/_, _%_, _≤_, _<_}
+use mathlib.Core.Path.{_≡_, refl, sym, ap, subst, _∙_}
+use mathlib.Core.Logic.{_↔_}
+use mathlib.Core.Bool.{Bool, true, false}
+use mathlib.Core.List.{List, []}
+use native.Mathlib.Omega.{arith}
+use borrow.Author.Tests.{eq-eqb, ne-eqb, eqb-true, eqb-false, lt-ltb, le-ltb, ltb-true, ltb-false, leb-true, leb-false, le-leb, lt-leb}
+use lib.Dec.{eqb, ltb, leb}
+use lib.ListN.{length, getD}
+use Rattle.relay.proofs.Truth.{split, least-or-below}
+use Rattle.sheet.proofs.Accepts.{accepted-good}
+use Rattle.sheet.proofs.First.{NamedSheet, verdict-iff}
+use Rattle.sheet.proofs.Good.{Good}
+use Rattle.sheet.proofs.Rooms.{all-events, events-long}
+use Rattle.sheet.proofs.Tabs.{getD-tab}
+use Rattle.sheet.specs.Check.{word}
+use Rattle.sheet.specs.Entry.{answerOf, answerIn}
+use Rattle.sheet.specs.Layout.{perBlock, unanswered, contentsWrong, roomShort}
+use Rattle.sheet.specs.Reading.{verdict, verdictOf, accepted, blocksIn, entriesIn, entryIn, decode}
+use Rattle.sheet.specs.declared.Verdict.{Verdict}
+use Rattle.working.proofs.Answers.{unanswered-before, answered-there}
+use Rattle.working.specs.Working.{firstAnswered, workVerdict}
+
+-- no later block before block e has an answer other than 31
+abbrev pub Unanswered : List ℕ → ℕ → Type 0
+Unanswered s e = (b j : ℕ) → 1 ≤ b → b < e → j < word s b 0 → answerIn (word s b (1 + j * 2)) ≡ unanswered
+
+-- what a verdict on working a sheet may be, with an output of m bytes
+pub data NamedWork (s : List ℕ) (m : ℕ) : Verdict → Type 0 where
+  -- 'reads it whole first'
+  unread : {v : Verdict} → (v .number ≡ 0 → ⊥) → NamedSheet s v → NamedWork s m v
+  -- 'refuses 20 at the first block with an answer other than 31'
+  answered : (b j : ℕ) → verdictOf s .number ≡ 0 → 1 ≤ b → b < blocksIn (length s) → j < word s b 0
+      → (answerIn (word s b (1 + j * 2)) ≡ unanswered → ⊥)
+      → Unanswered s b
+      → NamedWork s m (verdict contentsWrong b)
+  -- 'needs an output at least as long as the sheet (else 21)'
+  short : verdictOf s .number ≡ 0 → Unanswered s (blocksIn (length s)) → m < length s → NamedWork s m (verdict roomShort 0)
+  fits : verdictOf s .number ≡ 0 → Unanswered s (blocksIn (length s)) → length s ≤ m → NamedWork s m (verdict 0 0)
+
+-- ---- places
+module _ (s : List ℕ) (z : verdictOf s .number ≡ 0) where
+  abbrev n : ℕ
+  n = blocksIn (length s)
+
+  good : Good n s
+  good = accepted-good s z
+
+  -- event i stands in a block, at a place up to the block's number
+  placed : (i : ℕ) → i < entriesIn s → (1 + i / perBlock < n) × (i % perBlock < word s (1 + i / perBlock) 0)
+  unfolding entriesIn
+  placed i =
+      split (leb n 1)
+      (λ e. rw e (λ h. absurd (omega arith)))
+      (λ e.
+      rw e
+      (λ h.
+      let more : 1 < n = leb-false n 1 e in
+      let many = good .many (n - 1) (omega arith) (omega arith) in (
+        omega arith,
+        least-or-below n (1 + i / perBlock + 1)
+            (λ last. let here : 1 + i / perBlock ≡ n - 1 = omega arith in rw here (omega arith))
+            (λ before. rw (good .full (1 + i / perBlock) (omega arith) before) (omega arith)),
+      )))
+
+  -- and each such place is an event's
+  event-at : (b j : ℕ) → 1 ≤ b → b < n → j < word s b 0 → (b - 1) * perBlock + j < entriesIn s
+  unfolding entriesIn
+  event-at b j h k l =
+      split (leb n 1)
+      (λ e. absurd (omega (arith, leb-true n 1 e)))
+      (λ e.
+      rw e
+      (least-or-below n (b + 1)
+      (λ last. let here : word s b 0 ≡ word s (n - 1) 0 = ap (λ (x : ℕ). word s x 0) (omega arith) in omega arith)
+      (λ before. omega (arith, good .full b h before))))
+
+  -- its answer
+  answer-at : (i : ℕ) → i < entriesIn s → answerOf (getD (decode s .events) i []) ≡ answerIn (word s (1 + i / perBlock) (1 + i % perBlock * 2))
+  answer-at i h = rw (all-events s) (ap answerOf (getD-tab (entryIn s) [] (entriesIn s) i h))
+
+  -- an event by its block and place in it
+  at-place : (b j : ℕ) → 1 ≤ b → b < n → j < word s b 0
+      → answerOf (getD (decode s .events) ((b - 1) * perBlock + j) []) ≡ answerIn (word s b (1 + j * 2))
+  at-place b j h k l =
+      let i = (b - 1) * perBlock + j in
+      let m = good .many b h k in
+      let x : 1 + i / perBlock ≡ b = omega arith in
+      let y : i % perBlock ≡ j = omega arith in
+      rw (x, y) at (answer-at i (event-at b j h k l))
+
+  abbrev first : ℕ
+  first = firstAnswered (decode s .events)
+
+  long : length (decode s .events) ≡ entriesIn s
+  long = events-long s
+
+  -- no block before block e has an answer other than 31 where its events come before the first answered one
+  before : (e : ℕ) → e ≤ n → ((i : ℕ) → i < entriesIn s → 1 + i / perBlock < e → i < first) → Unanswered s e
+  before e h f b j k l m =
+      let i = (b - 1) * perBlock + j in
+      let there = event-at b j k (omega arith) m in
+      sym (at-place b j k (omega arith) m)
+      ∙ unanswered-before (decode s .events) i (f i there (omega (arith, good .many b k (omega arith)))) (omega (arith, long))
+
+  -- and its events come before it where it has none
+  after : (e : ℕ) → Unanswered s e → (i : ℕ) → i < entriesIn s → 1 + i / perBlock < e → i ≡ first → ⊥
+  after e u i h k q =
+      answered-there (decode s .events) (omega (arith, long)) (rw (← q) (answer-at i h ∙ u (1 + i / perBlock) (i % perBlock) (omega arith) k (placed i h .1)))
+
+-- ---- what working refuses
+work-named : (s : List ℕ) (m : ℕ) → NamedWork s m (workVerdict s m)
+unfolding workVerdict
+work-named s m =
+    split (accepted s)
+    (λ a.
+    let z = eqb-true (verdictOf s .number) 0 a in
+    split (ltb (first s z) (length (decode s .events)))
+    (λ t.
+    let l = ltb-true (first s z) (length (decode s .events)) t in
+    let p = placed s z (first s z) (omega (arith, long s z)) in
+    rw (a, t)
+    (answered (1 + first s z / perBlock) (first s z % perBlock) z (omega arith) (p .0) (p .1)
+    (λ e. answered-there (decode s .events) l (answer-at s z (first s z) (omega (arith, long s z)) ∙ e))
+    (before s z (1 + first s z / perBlock) (omega (arith, p .0)) (λ i h k. omega arith))))
+    (λ t.
+    let none = ltb-false (first s z) (length (decode s .events)) t in
+    let u = before s z (blocksIn (length s)) (omega arith) (λ i h k. omega (arith, long s z)) in
+    split (leb (length s) m)
+    (λ r. rw (a, t, r) (fits z u (leb-true (length s) m r)))
+    (λ r. rw (a, t, r) (short z u (leb-false (length s) m r)))))
+    (λ a. rw a (unread (eqb-false (verdictOf s .number) 0 a) (verdict-iff s (verdictOf s) .0 refl)))
+
+-- no event is answered where no block has an answer
+none : (s : List ℕ) (z : verdictOf s .number ≡ 0) → Unanswered s (blocksIn (length s)) → ltb (first s z) (length (decode s .events)) ≡ false
+none s z u =
+    least-or-below (length (decode s .events)) (first s z)
+    (λ h. le-ltb (first s z) (length (decode s .events)) h)
+    (λ h.
+    let l : first s z < entriesIn s = omega (arith, long s z) in
+    absurd (after s z (blocksIn (length s)) u (first s z) l (placed s z (first s z) l .0) refl))
+
+names-work : (s : List ℕ) (m : ℕ) (v : Verdict) → NamedWork s m v → workVerdict s m ≡ v
+unfolding workVerdict
+names-work s m v (unread h b) = let e = verdict-iff s v .1 b in rw (e, ne-eqb (v .number) 0 h)
+names-work s m v (answered b j z h k l q u) =
+    let i = (b - 1) * perBlock + j in
+    let there = event-at s z b j h k l in
+    let few = good s z .many b h k in
+    let most : first s z ≤ i =
+    least-or-below (first s z) i (λ x. x)
+    (λ x. absurd (q (sym (at-place s z b j h k l) ∙ unanswered-before (decode s .events) i x (omega (arith, long s z))))) in
+    let here : 1 + first s z / perBlock ≡ b =
+    least-or-below b (1 + first s z / perBlock)
+    (λ x. omega arith)
+    (λ x. absurd (after s z b u (first s z) (omega arith) x refl)) in
+    rw (eq-eqb (verdictOf s .number) 0 z, lt-ltb (first s z) (length (decode s .events)) (omega (arith, long s z)), here)
+names-work s m v (short z u h) = rw (eq-eqb (verdictOf s .number) 0 z, none s z u, lt-leb (length s) m h)
+names-work s m v (fits z u h) = rw (eq-eqb (verdictOf s .number) 0 z, none s z u, le-leb (length s) m h)
+
+-- 18 to 21 'given exactly when', with the block: a verdict is that of working exactly when it may be named
+pub work-iff : (s : List ℕ) (m : ℕ) (v : Verdict) → (workVerdict s m ≡ v) ↔ NamedWork s m v
+work-iff s m v = (λ e. subst (NamedWork s m) e (work-named s m), names-work s m v)
