@@ -3,5 +3,6 @@ pub mod Stores
 pub mod Spaces
 pub mod Ended
 pub mod Listed
+pub mod Numbered
 pub mod Sheets
 pub mod One

@@ -11,7 +11,7 @@ use mathlib.Core.List.{List, [], _∷_}
 use native.Mathlib.Omega.{arith}
 use borrow.Author.Tests.{eq-eqb, ne-eqb, eqb-true, lt-ltb}
 use lib.Dec.{eqb}
-use lib.ListN.{length, getD}
+use lib.ListN.{length, getD, take}
 use Rattle.relay.proofs.Frame.{answer-is, answer-small}
 use Rattle.relay.specs.Line.{After}
 use Rattle.sheet.proofs.Accepts.{accepted-good}
@@ -29,7 +29,7 @@ use Rattle.sheet.specs.Sheet.{Sheet, encode}
 use Rattle.working.proofs.Answers.{unanswered-before}
 use Rattle.working.proofs.Steps.{answered-long}
 use Rattle.working.proofs.Works.{fields-kept}
-use Rattle.working.specs.Run.{begun, next, answeredBy, answered}
+use Rattle.working.specs.Run.{begun, next, run, answeredBy, answered}
 use Rattle.working.specs.Working.{firstAnswered, blank, setBack, worked, workVerdict}
 
 -- ---- events
@@ -38,11 +38,12 @@ unfolding answered blank
 only-answers a [] = refl
 only-answers a (e ∷ es) = ap (λ (l : List (List ℕ)). answeredBy e unanswered ∷ l) (only-answers (next a e) es)
 
--- each event is itself with some answer
-answered-at : (a : After) (es : List (List ℕ)) (i : ℕ) → i < length es → (n : ℕ) × (getD (answered a es) i [] ≡ answeredBy (getD es i []) n)
-unfolding answered
+-- each event is itself, with the answer that it gets from the line as the events before it left it
+pub answered-at : (a : After) (es : List (List ℕ)) (i : ℕ) → i < length es
+    → getD (answered a es) i [] ≡ answeredBy (getD es i []) (next (run a (take i es)) (getD es i []) .told .answer)
+unfolding answered run
 answered-at a [] i h = absurd (omega (arith, h))
-answered-at a (e ∷ es) zero h = (next a e .told .answer, refl)
+answered-at a (e ∷ es) zero h = refl
 answered-at a (e ∷ es) (suc i) h = answered-at (next a e) es i (omega arith)
 
 -- the first event of a worked sheet is answered
@@ -83,8 +84,8 @@ module _ (s : List ℕ) (small : Below 256 s) (z : verdictOf s .number ≡ 0) wh
         most = rw (answered-long b es) (w .most);
         stamp = w .stamp;
         kinds = w .kinds;
-        four = λ i h. rw (answered-at b es i (rw (answered-long b es) at h) .1);
-        stamps = λ i h. rw (answered-at b es i (rw (answered-long b es) at h) .1) (w .stamps i (rw (answered-long b es) at h));
+        four = λ i h. rw (answered-at b es i (rw (answered-long b es) at h));
+        stamps = λ i h. rw (answered-at b es i (rw (answered-long b es) at h)) (w .stamps i (rw (answered-long b es) at h));
       }
 
   pub same-length : length (encode (worked (decode s))) ≡ length s
