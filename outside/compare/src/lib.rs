@@ -19,4 +19,5 @@ pub mod sheets;
 pub mod solved;
 pub mod starts;
 pub mod tally;
+pub mod variety;
 pub mod writes;
