@@ -6,6 +6,7 @@ pub mod child;
 pub mod damage;
 mod describe;
 pub mod desk;
+pub mod failing;
 pub mod fixed;
 pub mod full;
 pub mod histories;
