@@ -13,18 +13,18 @@ use Rattle.stream.specs.declared.WriteStep.{WriteStep}
 use Rattle.stream.specs.declared.WriteStep.the-variants as writeStep
 use Rattle.stream.specs.Steps.{afterRead, afterWrite, further, Within}
 
-module _ (n at room : ℕ) where
+module _ (at room : ℕ) where
   -- a read that gave -1 is a failed one
   pub failed-read : afterRead (negsuc 0) at room ≡ readStep.Stop Failed
   unfolding afterRead
   failed-read = refl
 
-  -- and no other is
-  pub failed-read-only : (got : ℤ) → Moved n got → afterRead got at room ≡ readStep.Stop Failed → got ≡ negsuc 0
+  -- and no other is, of what `read` may give
+  pub failed-read-only : (n : ℕ) (got : ℤ) → Moved n got → afterRead got at room ≡ readStep.Stop Failed → got ≡ negsuc 0
   unfolding afterRead
-  failed-read-only (pos zero) m e = cc e
-  failed-read-only (pos (suc k)) m e = cc e
-  failed-read-only (negsuc k) m e = ap negsuc m
+  failed-read-only n (pos zero) m e = cc e
+  failed-read-only n (pos (suc k)) m e = cc e
+  failed-read-only n (negsuc k) m e = ap negsuc m
 
   -- a write that gave -1, or took nothing, is a failed one
   pub failed-write : (afterWrite (negsuc 0) at room ≡ writeStep.Failed) × (afterWrite (pos 0) at room ≡ writeStep.Failed)
