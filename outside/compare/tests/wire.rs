@@ -82,6 +82,11 @@ fn a_wrong_program_is_found() {
         format!("{desk} | sed 's/^refused 20 2$/refused 20 1/'"),
         // A failed read is the end of the input to what follows.
         format!("cat 2>/dev/null | {desk}"),
+        // So it is here, where something was read before it.
+        format!(
+            "f=$(mktemp); if cat >$f 2>/dev/null || [ -s $f ]; then {desk} <$f; \
+            else echo the input could not be read >&2; fi; rm $f"
+        ),
     ];
     for line in wrong {
         let run = compare_program(&command(&["sh", "-c", &line]), 3, 10);
