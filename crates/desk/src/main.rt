@@ -1,28 +1,46 @@
 // Works the sheet on standard input and prints its listing. 01, 'The program and one listing'.
+// Where a read fails it prints nothing, and says so on standard error.
 use libc::STDIN_FILENO;
-use libc::STDOUT_FILENO;
+use stream::Reading;
 
-// Reads on to the end of an input longer than any sheet, of which n bytes are read, so that whoever writes it is not cut off; an input that never ends is left after two gigabytes.
-fn drain(n: usize) {
-    if n < 32769 {
-        return;
+// One byte more than the longest sheet: an input that fills it is longer than any.
+const ROOM: usize = 64 * 512 + 1;
+
+// What follows a longest sheet is read in pieces, to two gigabytes of them.
+const PIECE: usize = 65536;
+
+const PIECES: u32 = 32768;
+
+// Reads on to the end of an input longer than any sheet, of which n bytes are read, so that whoever writes it is not cut off; an input that never ends is left after two gigabytes. Whether no read failed.
+fn drain(n: usize) -> bool {
+    if n < ROOM {
+        return true;
     }
-    let mut room = [0u8; 65536];
+    let mut room = [0u8; PIECE];
     let mut i: u32 = 0;
-    while i < 32768 {
-        let more = io::read_full(STDIN_FILENO, &mut room);
-        if more < 65536 {
-            return;
+    while i < PIECES {
+        let Reading::Whole(more) = stream::read_whole(STDIN_FILENO, &mut room) else {
+            return false;
+        };
+        if more < PIECE {
+            return true;
         }
         i += 1;
     }
+    true
 }
 
 fn main() {
-    let mut s = [0u8; 32769];
+    let mut s = [0u8; ROOM];
     let mut page = [0u8; listing::PAGE];
-    let n = io::read_full(STDIN_FILENO, &mut s);
+    let Reading::Whole(n) = stream::read_whole(STDIN_FILENO, &mut s) else {
+        stream::tell_unread();
+        return;
+    };
+    if !drain(n) {
+        stream::tell_unread();
+        return;
+    }
     let m = listing::list(&s[..n], &mut page);
-    drain(n);
-    io::write_all(STDOUT_FILENO, &page[..m]);
+    stream::print(&page[..m]);
 }

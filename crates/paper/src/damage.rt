@@ -5,17 +5,21 @@
 use lent::array::ROOM;
 use relay::Head;
 use relay::Post;
+use stream::say;
 
-fn case(damage: &[u8], row: [Post; ROOM], n: usize, head: Head) {
+fn case(said: bool, damage: &[u8], row: [Post; ROOM], n: usize, head: Head) -> bool {
     let out = lent::array::event_on(row, n, head, 6, 1, 0);
     let after = out.posts;
     let told = out.told;
-    crate::say::word(b"D ");
-    crate::say::word(damage);
-    crate::say::number(told.answer);
-    crate::say::flag(crate::row::same(row, after) & crate::row::same_head(head, told.head));
-    crate::say::flag(lent::array::valid_on(row, n, head));
-    crate::say::end();
+    let said = say::word(said, b"D ");
+    let said = say::word(said, damage);
+    let said = say::number(said, told.answer);
+    let said = say::flag(
+        said,
+        crate::row::same(row, after) & crate::row::same_head(head, told.head),
+    );
+    let said = say::flag(said, lent::array::valid_on(row, n, head));
+    say::end(said)
 }
 
 fn put(row: [Post; ROOM], i: usize, p: Post) -> [Post; ROOM] {
@@ -26,7 +30,7 @@ fn put(row: [Post; ROOM], i: usize, p: Post) -> [Post; ROOM] {
     out
 }
 
-pub fn run() {
+pub fn run(said: bool) -> bool {
     let mut kinds = [relay::INTERMEDIATE; 32];
     kinds[0] = relay::ORIGIN;
     kinds[31] = relay::TERMINUS;
@@ -37,26 +41,26 @@ pub fn run() {
     let p = row[0];
     let d = row[1];
     // 0 0 1: as it is, the row is valid and takes the event
-    case(b"none", row, 32, head);
+    let said = case(said, b"none", row, 32, head);
     // 1 1 0, as all that follow: 'All other bits are zero'
     let mut bit = d;
     bit.word = d.word | 256;
-    case(b"bit", put(row, 1, bit), 32, head);
+    let said = case(said, b"bit", put(row, 1, bit), 32, head);
     // 'all others have 2, 3 or 4'
     let mut kind = d;
     kind.kind = 5;
-    case(b"kind", put(row, 1, kind), 32, head);
+    let said = case(said, b"kind", put(row, 1, kind), 32, head);
     // 'h equals a - v - g': 1 is not 2
     let mut count = p;
     count.a = 2;
-    case(b"count", put(row, 0, count), 32, head);
+    let said = case(said, b"count", put(row, 0, count), 32, head);
     // the same: 0 is not 1
     let mut free = p;
     free.word = p.word | relay::RL;
-    case(b"RL", put(row, 0, free), 32, head);
+    let said = case(said, b"RL", put(row, 0, free), 32, head);
     // '2 to 32 records': one intermediate post more, each record right
     let long = put(put(row, 31, row[30]), 32, row[31]);
-    case(b"long", long, 33, head);
-    case(b"one", row, 1, head);
-    case(b"empty", row, 0, head);
+    let said = case(said, b"long", long, 33, head);
+    let said = case(said, b"one", row, 1, head);
+    case(said, b"empty", row, 0, head)
 }

@@ -1,7 +1,7 @@
 // The listing: kinds 0, 1, start stamp 0, event k stamped 1000k. 01, 'The program and one listing'.
 // Prints one line per event, position, event, post, answer; then the section, S, section, a, r, x, q, e, y, v, g, h.
-use lent::array::Kept;
 use relay::Post;
+use stream::say;
 
 const KINDS: [u32; 2] = [0, 1];
 
@@ -40,38 +40,39 @@ const EVENTS: [[u32; 2]; 15] = [
 ];
 
 // The section between the posts `p` and `d`; h is 1 if RL is down.
-fn section(s: u32, p: Post, d: Post) {
-    crate::say::word(b"S");
-    crate::say::number(s);
-    crate::say::number(p.a);
-    crate::say::number(d.r);
-    crate::say::number(p.x);
-    crate::say::number(d.q);
-    crate::say::number(d.e);
-    crate::say::number(p.y);
-    crate::say::number(p.v);
-    crate::say::number(p.g);
-    crate::say::flag(p.word & relay::RL == 0);
-    crate::say::end();
+fn section(said: bool, s: u32, p: Post, d: Post) -> bool {
+    let said = say::word(said, b"S");
+    let said = say::number(said, s);
+    let said = say::number(said, p.a);
+    let said = say::number(said, d.r);
+    let said = say::number(said, p.x);
+    let said = say::number(said, d.q);
+    let said = say::number(said, d.e);
+    let said = say::number(said, p.y);
+    let said = say::number(said, p.v);
+    let said = say::number(said, p.g);
+    let said = say::flag(said, p.word & relay::RL == 0);
+    say::end(said)
 }
 
-fn event(k: Kept, position: u32, e: [u32; 2], stamp: u32) -> Kept {
-    let out = crate::row::next(k, 2, e[0], e[1], stamp);
-    crate::say::first(position);
-    crate::say::number(e[0]);
-    crate::say::number(e[1]);
-    crate::say::number(out.told.answer);
-    crate::say::end();
-    out
+fn event(said: bool, position: u32, e: [u32; 2], answer: u32) -> bool {
+    let said = say::first(said, position);
+    let said = say::number(said, e[0]);
+    let said = say::number(said, e[1]);
+    let said = say::number(said, answer);
+    say::end(said)
 }
 
-pub fn run() {
+pub fn run(said: bool) -> bool {
     let kinds = KINDS;
+    let mut said = said;
     let mut k = crate::row::session(&kinds, 0);
     for i in 0..15usize {
         let position = i as u32 + 1;
-        k = event(k, position, EVENTS[i], 1000 * position);
+        let e = EVENTS[i];
+        k = crate::row::next(k, 2, e[0], e[1], 1000 * position);
+        said = event(said, position, e, k.told.answer);
     }
     let posts = k.posts;
-    section(0, posts[0], posts[1]);
+    section(said, 0, posts[0], posts[1])
 }

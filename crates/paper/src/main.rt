@@ -4,14 +4,13 @@ mod cases;
 mod damage;
 mod listing;
 mod row;
-mod say;
 mod stamps;
 mod starts;
 
 fn main() {
-    cases::run();
-    listing::run();
-    damage::run();
-    starts::run();
-    stamps::run();
+    let said = cases::run(true);
+    let said = listing::run(said);
+    let said = damage::run(said);
+    let said = starts::run(said);
+    stream::tell_unwritten(stamps::run(said));
 }

@@ -5,6 +5,7 @@
 use lent::array::ROOM;
 use relay::Head;
 use relay::Post;
+use stream::say;
 
 const KINDS: [u32; 3] = [0, 4, 1];
 
@@ -38,7 +39,7 @@ const CASES: [[u32; 5]; 13] = [
     [0, 0, 3, 1, 9],
 ];
 
-fn case(row: [Post; ROOM], i: u32, c: [u32; 5]) {
+fn case(said: bool, row: [Post; ROOM], i: u32, c: [u32; 5]) -> bool {
     let head = Head {
         taken: c[0],
         last: c[1],
@@ -47,20 +48,22 @@ fn case(row: [Post; ROOM], i: u32, c: [u32; 5]) {
     let after = out.posts;
     let told = out.told;
     let then = told.head;
-    crate::say::word(b"E");
-    crate::say::number(i);
-    crate::say::number(told.answer);
-    crate::say::number(then.taken);
-    crate::say::number(then.last);
-    crate::say::flag(crate::row::same(row, after));
-    crate::say::end();
+    let said = say::word(said, b"E");
+    let said = say::number(said, i);
+    let said = say::number(said, told.answer);
+    let said = say::number(said, then.taken);
+    let said = say::number(said, then.last);
+    let said = say::flag(said, crate::row::same(row, after));
+    say::end(said)
 }
 
-pub fn run() {
+pub fn run(said: bool) -> bool {
     let kinds = KINDS;
     let fresh = crate::row::session(&kinds, 0);
     let row = fresh.posts;
+    let mut said = said;
     for i in 0..13usize {
-        case(row, i as u32 + 1, CASES[i]);
+        said = case(said, row, i as u32 + 1, CASES[i]);
     }
+    said
 }

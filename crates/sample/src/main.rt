@@ -1,6 +1,5 @@
 // Writes the paper's sheet to standard output: table 0, 1, start stamp 0, fifteen events, event k stamped 1000k, none answered.
 // 01, 'The program and one listing'.
-use libc::STDOUT_FILENO;
 
 fn main() {
     let kinds = [0u32, 1];
@@ -23,5 +22,5 @@ fn main() {
     ];
     let mut out = [0u8; 1024];
     sheet::write(&kinds, 0, &events, &mut out);
-    io::write_all(STDOUT_FILENO, &out);
+    stream::print(&out);
 }

@@ -1,12 +1,11 @@
 // Runs the paper's sheets and damaged ones through the sheet's calls, and prints one line per case.
 // What each line must be is said beside its case, from the paper (01, 'The event sheet' and 'Proved and run examples'); the file stdout has those lines.
 mod cases;
-mod say;
 
 fn main() {
-    cases::paper();
-    cases::lengths();
-    cases::rooms();
-    cases::full();
-    cases::damaged();
+    let said = cases::paper(true);
+    let said = cases::lengths(said);
+    let said = cases::rooms(said);
+    let said = cases::full(said);
+    stream::tell_unwritten(cases::damaged(said));
 }

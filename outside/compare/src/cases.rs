@@ -3,10 +3,8 @@
 use crate::desk::{reply, Model};
 use crate::random::Random;
 use crate::request::{Reply, Request};
+use crate::variety::Variety;
 use crate::{full, histories, rooms, rows, starts, writes};
-
-/// A variety of a sort: its name and its maker.
-pub type Variety = (&'static str, fn(&mut Random) -> Request);
 
 /// A sort of cases. Its varieties take turns, so that each has its share.
 pub struct Sort {

@@ -1,6 +1,6 @@
 //! The kinds of sheets to read and to work: good, answered, damaged.
 
-use model::{BLOCK_BYTES, CHECK};
+use model::{BLOCK_BYTES, CHECK, EVENTS_PER_BLOCK};
 
 use crate::histories::{some_posts, table};
 use crate::random::Random;
@@ -15,6 +15,7 @@ pub const KINDS: &[Kind] = &[
     ("good, any fields", |random| any_fields(random).bytes()),
     ("worked", worked),
     ("partly answered", partly_answered),
+    ("answered in any block", answered_in_any_block),
     ("any answers", any_answers),
     ("fewer blocks", fewer_blocks),
     ("cut", cut),
@@ -89,6 +90,19 @@ fn partly_answered(random: &mut Random) -> Vec<u8> {
         let at = random.below(sheet.events.len());
         sheet.events[at][2] = random.small(0, 30);
     }
+    sheet.bytes()
+}
+
+/// An event of any block, often its first or its last, is answered; no event before it.
+fn answered_in_any_block(random: &mut Random) -> Vec<u8> {
+    let posts = some_posts(random);
+    let count = random.between(1, 4 * EVENTS_PER_BLOCK);
+    let mut sheet = lively_sheet(random, posts, count);
+    let first = EVENTS_PER_BLOCK * random.below(count.div_ceil(EVENTS_PER_BLOCK));
+    let last = count.min(first + EVENTS_PER_BLOCK) - 1;
+    let at = random.between(first, last);
+    let at = random.pick(&[first, last, at]);
+    sheet.events[at][2] = random.small(0, 30);
     sheet.bytes()
 }
 

@@ -17,7 +17,7 @@ pub struct Fixed {
 const BUILT: u64 = 101;
 
 /// A sheet of kinds 0, 1 from stamp 0; event k is stamped 1000k.
-fn short_sheet(events: &[(u32, u32)]) -> Sheet {
+pub fn short_sheet(events: &[(u32, u32)]) -> Sheet {
     let entry = |(k, &(number, post)): (u32, &(u32, u32))| [number, post, UNANSWERED, 1000 * k];
     Sheet {
         kinds: vec![0, 1],
@@ -98,6 +98,7 @@ pub fn fixed_cases() -> Vec<Fixed> {
         refused("3,000,000 bytes", vec![1; 3_000_000], 18, 0),
     ];
     cases.extend(fixed_damaged(&refused));
+    cases.extend(fixed_answered(&refused));
     cases.extend(fixed_large());
     cases
 }
@@ -120,6 +121,36 @@ fn fixed_damaged(refused: &dyn Fn(&'static str, Vec<u8>, u32, u32) -> Fixed) -> 
         refused("wrong check in block 4", changed(4, 0, 19), 19, 4),
         refused("already worked", worked, 20, 1),
     ]
+}
+
+/// Sheets with events answered already: how many events there are, which of them are
+/// answered, and the block that is named. Events 0 to 59 stand in block 1.
+const ANSWERED: &[(&str, usize, &[usize], u32)] = &[
+    ("answered: the first event", 200, &[0], 1),
+    ("answered: several of block 1", 200, &[0, 1, 30, 59], 1),
+    ("answered: the last of block 1", 200, &[59], 1),
+    ("answered: the first of block 2", 200, &[60], 2),
+    ("answered: one of block 2", 200, &[90], 2),
+    ("answered: the last of block 2", 200, &[119], 2),
+    ("answered: the first of block 3", 200, &[120], 3),
+    ("answered: the last of block 3", 200, &[179], 3),
+    ("answered: the first of the last block", 200, &[180], 4),
+    ("answered: the last event", 200, &[199], 4),
+    ("answered: blocks 2 and 4", 200, &[119, 181], 2),
+    ("answered: the last of block 62", 3_780, &[3_719], 62),
+    ("answered: the first of block 63", 3_780, &[3_720], 63),
+    ("answered: the last of a full sheet", 3_780, &[3_779], 63),
+];
+
+fn fixed_answered(refused: &dyn Fn(&'static str, Vec<u8>, u32, u32) -> Fixed) -> Vec<Fixed> {
+    let case = |&(name, count, answered, block): &(&'static str, usize, &[usize], u32)| {
+        let mut sheet = short_sheet(&vec![(1, 0); count]);
+        for &at in answered {
+            sheet.events[at][2] = 0;
+        }
+        refused(name, sheet.bytes(), 20, block)
+    };
+    ANSWERED.iter().map(case).collect()
 }
 
 fn fixed_large() -> Vec<Fixed> {

@@ -2,11 +2,11 @@
 
 use model::{BLOCK_BYTES, MOST_BLOCKS, MOST_EVENTS};
 
-use crate::cases::Variety;
 use crate::histories::some_posts;
 use crate::random::Random;
 use crate::request::Request;
 use crate::sheets::{lively_sheet, put, renew, Sheet};
+use crate::variety::Variety;
 use crate::writes::{any_sheet, push_out, written, wrong_table};
 
 const FULL_BYTES: usize = BLOCK_BYTES * MOST_BLOCKS;

@@ -2,9 +2,9 @@
 
 use model::{relay, Head, Post};
 
-use crate::cases::Variety;
 use crate::random::Random;
 use crate::request::{Request, Step};
+use crate::variety::Variety;
 
 pub const LIVELY: &[Variety] = &[
     ("two posts", |random| lively(random, 2, 2, 200)),

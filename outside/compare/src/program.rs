@@ -9,6 +9,7 @@ use model::BLOCK_BYTES;
 
 use crate::child::{piped, watch, TIME_LIMIT};
 use crate::damage::KINDS;
+use crate::failing::{check_failing, failing_inputs};
 use crate::fixed::fixed_cases;
 use crate::random::Random;
 use crate::sheets::get;
@@ -126,13 +127,29 @@ fn check_fixed(command: &[String]) -> Result<usize, String> {
     Ok(ran)
 }
 
-/// The fixed cases and then so many random ones. What ran, or the first difference.
+/// Each input that fails; and first the same bytes where the input ends there, which
+/// are answered, so that a program which takes a failure for the end is found.
+fn check_failing_inputs(command: &[String]) -> Result<usize, String> {
+    let inputs = failing_inputs();
+    for bytes in &inputs {
+        let named =
+            |how| move |text| format!("an input that {how} after {} bytes: {text}", bytes.len());
+        check(command, bytes, &model::listing(bytes), Given::AtOnce).map_err(named("ends"))?;
+        check_failing(command, bytes).map_err(named("fails"))?;
+    }
+    Ok(inputs.len())
+}
+
+/// The fixed cases, the inputs that fail and then so many random sheets. What ran, or the first difference.
 pub fn compare_program(command: &[String], seed: u64, sheets: u64) -> Result<String, String> {
     let fixed = check_fixed(command)?;
+    let failing = check_failing_inputs(command)?;
     for index in 0..sheets {
         check_random(command, seed, index)?;
     }
-    Ok(format!("{fixed} fixed runs and {sheets} random sheets"))
+    Ok(format!(
+        "{fixed} fixed runs, {failing} inputs that fail and {sheets} random sheets"
+    ))
 }
 
 /// Replays one random sheet, named "desk:" and its index.

@@ -4,11 +4,11 @@
 use model::{relay, Head, Post, COUNT_LIMIT};
 
 use crate::alterations::*;
-use crate::cases::Variety;
 use crate::histories::{lively_event, near_stamp, some_posts, table, wild_step, Play};
 use crate::random::Random;
 use crate::request::Request;
 use crate::solved::solved;
+use crate::variety::Variety;
 
 pub const HEADS: &[Variety] = &[
     ("999,998 taken", |random| head(random, COUNT_LIMIT - 2)),

@@ -2,10 +2,10 @@
 
 use model::Post;
 
-use crate::cases::Variety;
 use crate::histories::table;
 use crate::random::Random;
 use crate::request::{post_of, Request, POST_WORDS};
+use crate::variety::Variety;
 
 pub const STARTS: &[Variety] = &[
     ("right", |random| {

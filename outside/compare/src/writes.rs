@@ -2,11 +2,11 @@
 
 use model::Entry;
 
-use crate::cases::Variety;
 use crate::histories::{some_posts, table};
 use crate::random::Random;
 use crate::request::Request;
 use crate::sheets::{some, Sheet};
+use crate::variety::Variety;
 
 pub const WRITES: &[Variety] = &[
     ("right", |random| {

@@ -5,6 +5,7 @@ use std::time::Duration;
 use compare::cases::{sorts, Wanted};
 use compare::child::ChildLibrary;
 use compare::desk::Library;
+use compare::failing::failing_inputs;
 use compare::fixed::sheet_of_everything;
 use compare::program::compare_program;
 use compare::run::{compare, named_case, only};
@@ -77,11 +78,26 @@ fn a_wrong_program_is_found() {
         format!("{desk} | tr S s"),
         format!("{desk}; echo"),
         format!("head -c 1024 | {desk}"),
+        // Events 60 to 63 reckoned into block 1, as if a block held 64.
+        format!("{desk} | sed 's/^refused 20 2$/refused 20 1/'"),
+        // A failed read is the end of the input to what follows.
+        format!("cat 2>/dev/null | {desk}"),
+        // So it is here, where something was read before it.
+        format!(
+            "f=$(mktemp); if cat >$f 2>/dev/null || [ -s $f ]; then {desk} <$f; \
+            else echo the input could not be read >&2; fi; rm $f"
+        ),
     ];
     for line in wrong {
         let run = compare_program(&command(&["sh", "-c", &line]), 3, 10);
         assert!(run.is_err(), "{line}");
     }
+}
+
+#[test]
+fn some_inputs_that_fail_would_be_good_sheets() {
+    let listed = |bytes: &Vec<u8>| !model::listing(bytes).starts_with("refused");
+    assert_eq!(failing_inputs().into_iter().filter(listed).count(), 5);
 }
 
 #[test]

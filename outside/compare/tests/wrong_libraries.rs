@@ -342,3 +342,24 @@ fn starts_wrongly() {
     must_differ("refused start clears", StartsWrongly { clears: true });
     must_differ("refused start's head", StartsWrongly { clears: false });
 }
+
+/// Names the block of an answered event as if a block held 64 of them.
+struct BlocksOf64;
+
+impl Desk for BlocksOf64 {
+    fn work(&mut self, sheet: &[u8], out: &mut [u8]) -> Worked {
+        let mut worked = model::work(sheet, out);
+        let mut events = vec![[0; 4]; model::MOST_EVENTS];
+        let found = model::read(sheet, &mut [0; 32], &mut events);
+        if worked.number == 20 && found.number == 0 {
+            let answered = events.iter().position(|event| event[2] != 31);
+            worked.block = answered.map_or(0, |at| 1 + at as u32 / 64);
+        }
+        worked
+    }
+}
+
+#[test]
+fn reckons_an_answered_block_by_64() {
+    must_differ("an answered event's block by 64", BlocksOf64);
+}

@@ -5,6 +5,7 @@
 use std::io::{self, BufRead, BufReader, Read, Write};
 
 use compare::desk::{reply, Model};
+use compare::failing::UNREAD;
 use compare::request::{post_of, Request, POST_WORDS};
 use model::{Head, Post};
 
@@ -110,11 +111,17 @@ impl<R: Read> Wire<R> {
 
 fn main() -> io::Result<()> {
     if std::env::args().any(|argument| argument == "--desk") {
-        let mut sheet = Vec::new();
-        io::stdin().lock().read_to_end(&mut sheet)?;
-        return io::stdout().write_all(model::listing(&sheet).as_bytes());
+        return work();
     }
     serve()
+}
+
+fn work() -> io::Result<()> {
+    let mut sheet = Vec::new();
+    if io::stdin().lock().read_to_end(&mut sheet).is_err() {
+        return io::stderr().write_all(UNREAD.as_bytes());
+    }
+    io::stdout().write_all(model::listing(&sheet).as_bytes())
 }
 
 fn serve() -> io::Result<()> {

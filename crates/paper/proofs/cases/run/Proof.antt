@@ -1,14 +1,14 @@
 -- `paper::cases::run` is safe and ends: the measure is how many cases are left.
-use borrow.Author.Needs.{needs}
 use Prim.Native.Nat.{_-_}
+use borrow.Author.Needs.{needs}
 use Rattle.paper.proofs.cases.run.Statement.{statement}
 use Rattle.paper.proofs.cases.run.Tie as tie
 
 abbrev Inv-loop : tie.InvT-loop
-Inv-loop i₀ i = Unit {0}
+Inv-loop said said₀ i₀ said' i = Unit {0}
 
 abbrev μ-loop : tie.MeasureT-loop
-μ-loop i₀ i = 12 - i
+μ-loop said said₀ i₀ said' i = 12 - i
 
 loop-holds : tie.Need-loop-holds Inv-loop μ-loop
 loop-holds c = search needs

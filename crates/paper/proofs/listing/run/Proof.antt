@@ -1,14 +1,14 @@
 -- `paper::listing::run` is safe and ends: the measure is how many events are left.
-use borrow.Author.Needs.{needs}
 use Prim.Native.Nat.{_-_}
+use borrow.Author.Needs.{needs}
 use Rattle.paper.proofs.listing.run.Statement.{statement}
 use Rattle.paper.proofs.listing.run.Tie as tie
 
 abbrev Inv-loop : tie.InvT-loop
-Inv-loop k₀ i₀ k i = Unit {0}
+Inv-loop said said₀ k₀ i₀ said' k i = Unit {0}
 
 abbrev μ-loop : tie.MeasureT-loop
-μ-loop k₀ i₀ k i = 15 - i
+μ-loop said said₀ k₀ i₀ said' k i = 15 - i
 
 slice-aggregate-session : tie.Need-slice-aggregate-session Inv-loop μ-loop
 slice-aggregate-session c = search needs
@@ -25,14 +25,23 @@ cast-position c = search needs
 add-position : tie.Need-add-position Inv-loop μ-loop
 add-position c = search needs
 
-mul-event : tie.Need-mul-event Inv-loop μ-loop
-mul-event c = search needs
+mul-e : tie.Need-mul-e Inv-loop μ-loop
+mul-e c = search needs
 
-array-copy-out-event : tie.Need-array-copy-out-event Inv-loop μ-loop
-array-copy-out-event c = search needs
+array-copy-out-e : tie.Need-array-copy-out-e Inv-loop μ-loop
+array-copy-out-e c = search needs
 
-mul-event-2 : tie.Need-mul-event-2 Inv-loop μ-loop
-mul-event-2 c = search needs
+array-read-next : tie.Need-array-read-next Inv-loop μ-loop
+array-read-next c = search needs
+
+array-read-next-2 : tie.Need-array-read-next-2 Inv-loop μ-loop
+array-read-next-2 c = search needs
+
+mul-next : tie.Need-mul-next Inv-loop μ-loop
+mul-next c = search needs
+
+next-requires : tie.Need-next-requires Inv-loop μ-loop
+next-requires c κs = search needs
 
 event-requires : tie.Need-event-requires Inv-loop μ-loop
 event-requires c κs = search needs
@@ -69,9 +78,12 @@ run-spec =
     loop-holds
     cast-position
     add-position
-    mul-event
-    array-copy-out-event
-    mul-event-2
+    mul-e
+    array-copy-out-e
+    array-read-next
+    array-read-next-2
+    mul-next
+    next-requires
     event-requires
     add-i
     loop-less

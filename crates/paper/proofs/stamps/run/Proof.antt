@@ -1,14 +1,14 @@
 -- `paper::stamps::run` is safe and ends: the measure is how many cases are left.
-use borrow.Author.Needs.{needs}
 use Prim.Native.Nat.{_-_}
+use borrow.Author.Needs.{needs}
 use Rattle.paper.proofs.stamps.run.Statement.{statement}
 use Rattle.paper.proofs.stamps.run.Tie as tie
 
 abbrev Inv-loop : tie.InvT-loop
-Inv-loop row i₀ i = Unit {0}
+Inv-loop said row said₀ i₀ said' i = Unit {0}
 
 abbrev μ-loop : tie.MeasureT-loop
-μ-loop row i₀ i = 13 - i
+μ-loop said row said₀ i₀ said' i = 13 - i
 
 slice-aggregate-session : tie.Need-slice-aggregate-session Inv-loop μ-loop
 slice-aggregate-session c = search needs

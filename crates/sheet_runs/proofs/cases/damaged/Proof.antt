@@ -2,17 +2,17 @@
 -- Assumes nothing.
 use Prim.Native.Nat.{_≤_, _-_}
 use mathlib.Core.Path.{_≡_}
-use borrow.Author.Needs.{needs}
 use native.Mathlib.Omega.{arith}
 use lib.ListN.{length, length-set}
+use borrow.Author.Needs.{needs}
 use Rattle.sheet_runs.proofs.cases.damaged.Statement.{statement}
 use Rattle.sheet_runs.proofs.cases.damaged.Tie as tie
 
 abbrev Inv-loop : tie.InvT-loop
-Inv-loop out₀ b₀ right₀ t8 t9 out b right = (b ≤ 64) × (right ≤ b) × (length out ≡ 32768)
+Inv-loop said out₀ b₀ right₀ t13 t14 out b right = (b ≤ 64) × (right ≤ b) × (length out ≡ 32768)
 
 abbrev μ-loop : tie.MeasureT-loop
-μ-loop out₀ b₀ right₀ t8 t9 out b right = 64 - b
+μ-loop said out₀ b₀ right₀ t13 t14 out b right = 64 - b
 
 slice-aggregate-write : tie.Need-slice-aggregate-write Inv-loop μ-loop
 slice-aggregate-write c = search needs
