@@ -17,7 +17,7 @@ use Rattle.relay.proofs.Truth.{equal-or-not}
 use Rattle.history.specs.Run.{State, step, run, begun}
 
 -- the post named and its neighbour keep their kinds
-taken-kinds : {n : ℕ} {p o : Post} {b : Pair} → Taken p o n b → (b .here .kind ≡ p .kind) × (b .other .kind ≡ o .kind)
+taken-kinds : {i j n : ℕ} {p o : Post} {b : Pair} → Taken i j p o n b → (b .here .kind ≡ p .kind) × (b .other .kind ≡ o .kind)
 taken-kinds (reverse a b) = (refl, refl)
 taken-kinds (normalise a) = (refl, refl)
 taken-kinds (pass a b c) = (refl, refl)
@@ -26,13 +26,13 @@ taken-kinds (strike-block a b) = (refl, refl)
 taken-kinds (strike-close a b) = (refl, refl)
 taken-kinds (strike-idle a b) = (refl, refl)
 taken-kinds (announce a b c) = (refl, refl)
-taken-kinds (release a b c d e) = (refl, refl)
-taken-kinds (garage a b c) = (refl, refl)
-taken-kinds (announcement-arrives a) = (refl, refl)
-taken-kinds (release-arrives a b) = (refl, refl)
-taken-kinds (announcement-lost a) = (refl, refl)
-taken-kinds (release-lost a b) = (refl, refl)
-taken-kinds (restore a b c d) = (refl, refl)
+taken-kinds (release m a b c d e) = (refl, refl)
+taken-kinds (garage m a b c) = (refl, refl)
+taken-kinds (announcement-arrives m a) = (refl, refl)
+taken-kinds (release-arrives m a b) = (refl, refl)
+taken-kinds (announcement-lost m a) = (refl, refl)
+taken-kinds (release-lost m a b) = (refl, refl)
+taken-kinds (restore m a b c d) = (refl, refl)
 
 -- and so does every post
 pub step-kinds : (e : Event) (w : State) (i : ℕ) → at (step e w .line) i .kind ≡ at (w .line) i .kind

@@ -19,7 +19,7 @@ use Rattle.relay.specs.declared.Post.{Post}
 use Rattle.relay.proofs.Accepted.{event-cases, reverse-iff}
 use Rattle.relay.proofs.Cases.{Taken, reverse, normalise, pass, pass-idle, strike-block, strike-close, strike-idle, announce, release, garage, announcement-arrives, release-arrives, announcement-lost, release-lost, restore, accepted-case}
 use Rattle.relay.proofs.Facts.{PostOk, SectionOk, valid-iff}
-use Rattle.relay.proofs.Frame.{taken-replaces, neighbour-section}
+use Rattle.relay.proofs.Frame.{taken-replaces, neighbour-within}
 use Rattle.relay.proofs.Truth.{facts, ones, up-or-down, split, equal-or-not}
 use Rattle.relay.proofs.Word.{relays}
 use Rattle.history.specs.History.{Entry, entry, did, isOpen, announces, lastSent, receives}
@@ -40,7 +40,7 @@ pub data Turn (i : ℕ) (h : List Entry) (x : Entry) (q q′ : Post) : Type 0 wh
   frees : up RL (q .word) ≡ false → (receives 241 i x h || did 10 i x) ≡ true → Turn i h x q q′
 
 -- the post named
-turn-here : {n i k t : ℕ} {h : List Entry} {p o : Post} {b : Pair} → eqb k i ≡ true → (8 ≤ n → SectionOk p o × Agrees i h p o) → Taken p o n b
+turn-here : {n i k j t : ℕ} {h : List Entry} {p o : Post} {b : Pair} → eqb k i ≡ true → (j ≡ k + 1 → SectionOk p o × Agrees i h p o) → Taken k j p o n b
     → Turn i h (entry (ev-at n k t) 0) p (b .here)
 unfolding announces receives did
 turn-here f z (reverse a b) = quiet (λ e. simp relays e) (simp relays)
@@ -51,21 +51,21 @@ turn-here f z (strike-block a b) = quiet (λ e. simp relays) (simp relays)
 turn-here f z (strike-close a b) = quiet (λ e. simp relays e) (simp relays)
 turn-here f z (strike-idle a b) = quiet (λ e. e) refl
 turn-here f z (announce a b c) = sends (simp f) (simp relays)
-turn-here f z (release a b c d e) = quiet (λ e. simp relays e) (simp relays)
-turn-here f z (garage a b c) = quiet (λ e. simp relays e) (simp relays)
-turn-here f z (announcement-arrives a) = quiet (λ e. simp relays e) (simp relays)
-turn-here {i = i} {h = h} {p = p} f z (release-arrives a b) =
-    let k = z (omega arith) in
+turn-here f z (release m a b c d e) = quiet (λ e. simp relays e) (simp relays)
+turn-here f z (garage m a b c) = quiet (λ e. simp relays e) (simp relays)
+turn-here f z (announcement-arrives m a) = quiet (λ e. simp relays e) (simp relays)
+turn-here {i = i} {h = h} {p = p} f z (release-arrives m a b) =
+    let k = z m in
     let x : lastSent i h ≡ 241 = last-is (up W241 (p .word)) (lastSent i h) 241 (k .1 .release-last) b in
     frees
     (split (up RL (p .word)) (λ e. absurd (omega (arith, ones, k .0, up-or-down (up RL (p .word))))) (λ e. e))
     (simp (f, x))
-turn-here f z (announcement-lost a) = quiet (λ e. simp relays e) (simp relays)
-turn-here f z (release-lost a b) = quiet (λ e. simp relays e) (simp relays)
-turn-here f z (restore a b c d) = frees a (simp f)
+turn-here f z (announcement-lost m a) = quiet (λ e. simp relays e) (simp relays)
+turn-here f z (release-lost m a b) = quiet (λ e. simp relays e) (simp relays)
+turn-here f z (restore m a b c d) = frees a (simp f)
 
 -- its neighbour
-turn-other : {n i k t : ℕ} {h : List Entry} {p o : Post} {b : Pair} → Taken p o n b → Turn i h (entry (ev-at n k t) 0) o (b .other)
+turn-other : {n i k j t : ℕ} {h : List Entry} {p o : Post} {b : Pair} → Taken k j p o n b → Turn i h (entry (ev-at n k t) 0) o (b .other)
 turn-other (reverse a b) = quiet (λ e. e) refl
 turn-other (normalise a) = quiet (λ e. e) refl
 turn-other (pass a b c) = quiet (λ e. e) refl
@@ -74,13 +74,13 @@ turn-other (strike-block a b) = quiet (λ e. e) refl
 turn-other (strike-close a b) = quiet (λ e. e) refl
 turn-other (strike-idle a b) = quiet (λ e. e) refl
 turn-other (announce a b c) = quiet (λ e. e) refl
-turn-other (release a b c d e) = quiet (λ e. simp relays e) (simp relays)
-turn-other (garage a b c) = quiet (λ e. simp relays e) (simp relays)
-turn-other (announcement-arrives a) = quiet (λ e. simp relays e) (simp relays)
-turn-other (release-arrives a b) = quiet (λ e. e) refl
-turn-other (announcement-lost a) = quiet (λ e. e) refl
-turn-other (release-lost a b) = quiet (λ e. e) refl
-turn-other (restore a b c d) = quiet (λ e. e) refl
+turn-other (release m a b c d e) = quiet (λ e. simp relays e) (simp relays)
+turn-other (garage m a b c) = quiet (λ e. simp relays e) (simp relays)
+turn-other (announcement-arrives m a) = quiet (λ e. simp relays e) (simp relays)
+turn-other (release-arrives m a b) = quiet (λ e. e) refl
+turn-other (announcement-lost m a) = quiet (λ e. e) refl
+turn-other (release-lost m a b) = quiet (λ e. e) refl
+turn-other (restore m a b c d) = quiet (λ e. e) refl
 
 -- any post i, by any event, taken or refused
 turn : (e : Event) (w : State) → Sound w → (i : ℕ)
@@ -94,7 +94,9 @@ turn e w r i =
     (λ f.
     rw (f, R .first)
     (turn-here (eq-eqb (e .post) (e .post) refl)
-    (λ m. rw (neighbour-section (e .number) (e .post) m) (c .valid .sections (e .post) (c .section m), r .agrees (e .post) (c .section m)))
+    (λ m.
+    let k : e .post + 1 < length (w .line) = omega (arith, neighbour-within (w .line) (w .head) (e .number) (e .post) (e .stamp) c) in
+    rw m (c .valid .sections (e .post) k, r .agrees (e .post) k))
     T))
     (λ f.
     equal-or-not i (neighbour (e .number) (e .post))

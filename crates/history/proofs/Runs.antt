@@ -17,7 +17,7 @@ use Rattle.relay.specs.declared.Post.{Post}
 use Rattle.relay.proofs.Accepted.{event-cases}
 use Rattle.relay.proofs.Cases.{accepted-case}
 use Rattle.relay.proofs.Facts.{SectionOk}
-use Rattle.relay.proofs.Frame.{Replaced, taken-replaces, neighbour-section, neighbour-post, length-stays}
+use Rattle.relay.proofs.Frame.{Replaced, taken-replaces, length-stays}
 use Rattle.relay.proofs.Kept.{event-keeps, fresh-valid}
 use Rattle.relay.proofs.Truth.{equal-or-not}
 use Rattle.history.specs.History.{Entry}
@@ -29,26 +29,24 @@ use Rattle.history.proofs.Agrees.{Agrees, Below, Above, Apart, more, ap
 unaltered : {i j : ℕ} {l l′ : List Post} {p q : Post} → Replaced l l′ i j p q → q ≡ at l j → (k : ℕ) → (k ≡ i → ⊥) → at l′ k ≡ at l k
 unaltered {j = j} R z k f = equal-or-not k j (λ e. rw e (R .second ∙ z)) (λ e. R .rest k f e)
 
-module _ {n i j : ℕ} {b : Pair} (t : ℕ) (h : List Entry) (l l′ : List Post) (R : Replaced l l′ i j (b .here) (b .other)) (after-it : 8 ≤ n → j ≡ i + 1) (before-it : n < 8 → (i ≡ 0 → ⊥) → i ≡ j + 1) (s : ℕ) (k : SectionOk (at l s) (at l (s + 1))) (z : Agrees s h (at l s) (at l (s + 1))) where
+module _ {i j : ℕ} {b : Pair} (n t : ℕ) (h : List Entry) (l l′ : List Post) (R : Replaced l l′ i j (b .here) (b .other)) (s : ℕ) (k : SectionOk (at l s) (at l (s + 1))) (z : Agrees s h (at l s) (at l (s + 1))) where
   -- what is to be shown of section s
   abbrev Moved : Type 0
   Moved = Agrees s (more n i t h) (at l′ s) (at l′ (s + 1))
 
   -- the post named is upstream of it
-  below-moves : Below i s → i ≡ s → Moves n i t h (at l i) (at l j) b → Moved
+  below-moves : Below i s → i ≡ s → Moves n i j t h (at l i) (at l j) b → Moved
   below-moves f e (single o g a) =
       let w : at l s ≡ at l i = ap (at l) (sym e) in
       let x : at l′ s ≡ b .here = ap (at l′) (sym e) ∙ R .first in
       let y : at l′ (s + 1) ≡ at l (s + 1) = unaltered R o (s + 1) (λ c. omega arith) in
       rw (x, y) (g s (at l (s + 1)) f (rw w at k) (rw w at z))
-  below-moves f e (back c o a g p) =
-      let q = before-it c o in
+  below-moves f e (back q a g p) =
       let w : at l s ≡ at l i = ap (at l) (sym e) in
       let x : at l′ s ≡ b .here = ap (at l′) (sym e) ∙ R .first in
       let y : at l′ (s + 1) ≡ at l (s + 1) = R .rest (s + 1) (λ c. omega arith) (λ c. omega arith) in
       rw (x, y) (g s (at l (s + 1)) f (rw w at z))
-  below-moves f e (onward c g a p) =
-      let q = after-it c in
+  below-moves f e (onward q g a p) =
       let v : s + 1 ≡ j = omega arith in
       let w : at l s ≡ at l i = ap (at l) (sym e) in
       let x : at l′ s ≡ b .here = ap (at l′) (sym e) ∙ R .first in
@@ -56,34 +54,31 @@ module _ {n i j : ℕ} {b : Pair} (t : ℕ) (h : List Entry) (l l′ : List Post
       rw (x, y) (g s f (rw (w, ap (at l) v) at k) (rw (w, ap (at l) v) at z))
 
   -- the post named is downstream of it
-  above-moves : Above i s → i ≡ s + 1 → Moves n i t h (at l i) (at l j) b → Moved
+  above-moves : Above i s → i ≡ s + 1 → Moves n i j t h (at l i) (at l j) b → Moved
   above-moves f e (single o g a) =
       let w : at l (s + 1) ≡ at l i = ap (at l) (sym e) in
       let x : at l′ (s + 1) ≡ b .here = ap (at l′) (sym e) ∙ R .first in
       let y : at l′ s ≡ at l s = unaltered R o s (λ c. omega arith) in
       rw (x, y) (a s (at l s) f (rw w at z))
-  above-moves f e (back c o a g p) =
-      let q = before-it c o in
+  above-moves f e (back q a g p) =
       let v : s ≡ j = omega arith in
       let w : at l (s + 1) ≡ at l i = ap (at l) (sym e) in
       let x : at l′ (s + 1) ≡ b .here = ap (at l′) (sym e) ∙ R .first in
       let y : at l′ s ≡ b .other = ap (at l′) v ∙ R .second in
       rw (x, y) (a s f (rw (w, ap (at l) v) at k) (rw (w, ap (at l) v) at z))
-  above-moves f e (onward c g a p) =
-      let q = after-it c in
+  above-moves f e (onward q g a p) =
       let w : at l (s + 1) ≡ at l i = ap (at l) (sym e) in
       let x : at l′ (s + 1) ≡ b .here = ap (at l′) (sym e) ∙ R .first in
       let y : at l′ s ≡ at l s = R .rest s (λ c. omega arith) (λ c. omega arith) in
       rw (x, y) (a s (at l s) f (rw w at z))
 
   -- the post named is neither
-  apart-moves : Apart i s → (i ≡ s → ⊥) → (i ≡ s + 1 → ⊥) → Moves n i t h (at l i) (at l j) b → Moved
+  apart-moves : Apart i s → (i ≡ s → ⊥) → (i ≡ s + 1 → ⊥) → Moves n i j t h (at l i) (at l j) b → Moved
   apart-moves f d e (single o g a) =
       let x : at l′ s ≡ at l s = unaltered R o s (λ c. d (sym c)) in
       let y : at l′ (s + 1) ≡ at l (s + 1) = unaltered R o (s + 1) (λ c. e (sym c)) in
       rw (x, y) (apart n i t h s (at l s) (at l (s + 1)) f z)
-  apart-moves f d e (back c o a g p) =
-      let q = before-it c o in
+  apart-moves f d e (back q a g p) =
       let x : at l′ s ≡ at l s = R .rest s (λ c. d (sym c)) (λ c. e (omega arith)) in
       equal-or-not (s + 1) j
       (λ v.
@@ -92,8 +87,7 @@ module _ {n i j : ℕ} {b : Pair} (t : ℕ) (h : List Entry) (l l′ : List Post
       (λ v.
       let y : at l′ (s + 1) ≡ at l (s + 1) = R .rest (s + 1) (λ c. e (sym c)) v in
       rw (x, y) (apart n i t h s (at l s) (at l (s + 1)) f z))
-  apart-moves f d e (onward c g a p) =
-      let q = after-it c in
+  apart-moves f d e (onward q g a p) =
       let y : at l′ (s + 1) ≡ at l (s + 1) = R .rest (s + 1) (λ c. e (sym c)) (λ c. d (omega arith)) in
       equal-or-not s j
       (λ v.
@@ -104,7 +98,7 @@ module _ {n i j : ℕ} {b : Pair} (t : ℕ) (h : List Entry) (l l′ : List Post
       rw (x, y) (apart n i t h s (at l s) (at l (s + 1)) f z))
 
   -- wherever it lies
-  section-moves : Moves n i t h (at l i) (at l j) b → Moved
+  section-moves : Moves n i j t h (at l i) (at l j) b → Moved
   section-moves m =
       equal-or-not i s
       (λ e. below-moves (eq-eqb i s e, ne-eqb i (s + 1) (λ c. omega arith)) e m)
@@ -128,8 +122,8 @@ unfolding step
 event-agrees e h l v s k z =
     event-cases (λ a. Agrees s (next e h a .history) (at (a .line) s) (at (a .line) (s + 1))) l v (e .number) (e .post) (e .stamp)
     (λ c.
-    section-moves (e .stamp) h l (changedLine l (e .number) (e .post)) (taken-replaces l v (e .number) (e .post) (e .stamp) c)
-    (neighbour-section (e .number) (e .post)) (neighbour-post (e .number) (e .post)) s (c .valid .sections s k) z
+    section-moves (e .number) (e .stamp) h l (changedLine l (e .number) (e .post)) (taken-replaces l v (e .number) (e .post) (e .stamp) c)
+    s (c .valid .sections s k) z
     (moves (c .room) (c .valid .each (e .post) (c .place)) (accepted-case l v (e .number) (e .post) (e .stamp) c)))
     (λ c. refused e _ h s (at l s) (at l (s + 1)) (ne-eqb _ 0 c) z)
 

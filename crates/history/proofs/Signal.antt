@@ -24,7 +24,7 @@ use Rattle.history.specs.Run.{State, given, answer, step, run, begun}
 use Rattle.history.proofs.Agrees.{and-false}
 
 -- the post named
-signal-here : (i t : ℕ) {n k N T : ℕ} {p o : Post} {b : Pair} → eqb k i ≡ true → PostOk N k T p → Taken p o n b
+signal-here : (i t : ℕ) {n k j N T : ℕ} {p o : Post} {b : Pair} → eqb k i ≡ true → PostOk N k T p → Taken k j p o n b
     → up signal (b .here .word) ≡ opens i (entry (ev-at n k t) 0) (up signal (p .word))
 unfolding opens did
 signal-here i t f r (reverse a b) = simp (relays, f)
@@ -36,16 +36,16 @@ signal-here i t f r (strike-close a b) = simp (relays, f)
 signal-here i t {p = p} f r (strike-idle a b) =
     simp f (split (up signal (p .word)) (λ c. absurd (false≢true (sym b ∙ r .word .open-reversed c))) (λ c. c))
 signal-here i t f r (announce a b c) = simp relays
-signal-here i t f r (release a b c d e) = simp relays
-signal-here i t f r (garage a b c) = simp relays
-signal-here i t f r (announcement-arrives a) = simp relays
-signal-here i t f r (release-arrives a b) = simp relays
-signal-here i t f r (announcement-lost a) = simp relays
-signal-here i t f r (release-lost a b) = simp relays
-signal-here i t f r (restore a b c d) = simp relays
+signal-here i t f r (release m a b c d e) = simp relays
+signal-here i t f r (garage m a b c) = simp relays
+signal-here i t f r (announcement-arrives m a) = simp relays
+signal-here i t f r (release-arrives m a b) = simp relays
+signal-here i t f r (announcement-lost m a) = simp relays
+signal-here i t f r (release-lost m a b) = simp relays
+signal-here i t f r (restore m a b c d) = simp relays
 
 -- its neighbour is as it was
-signal-other : {n : ℕ} {p o : Post} {b : Pair} → Taken p o n b → up signal (b .other .word) ≡ up signal (o .word)
+signal-other : {i j n : ℕ} {p o : Post} {b : Pair} → Taken i j p o n b → up signal (b .other .word) ≡ up signal (o .word)
 signal-other (reverse a b) = refl
 signal-other (normalise a) = refl
 signal-other (pass a b c) = refl
@@ -54,13 +54,13 @@ signal-other (strike-block a b) = refl
 signal-other (strike-close a b) = refl
 signal-other (strike-idle a b) = refl
 signal-other (announce a b c) = refl
-signal-other (release a b c d e) = simp relays
-signal-other (garage a b c) = simp relays
-signal-other (announcement-arrives a) = simp relays
-signal-other (release-arrives a b) = refl
-signal-other (announcement-lost a) = refl
-signal-other (release-lost a b) = refl
-signal-other (restore a b c d) = refl
+signal-other (release m a b c d e) = simp relays
+signal-other (garage m a b c) = simp relays
+signal-other (announcement-arrives m a) = simp relays
+signal-other (release-arrives m a b) = refl
+signal-other (announcement-lost m a) = refl
+signal-other (release-lost m a b) = refl
+signal-other (restore m a b c d) = refl
 
 -- an event at another post opens and closes nothing here, nor does one refused
 opens-away : (n i k t : ℕ) (b : Bool) → eqb k i ≡ false → opens i (entry (ev-at n k t) 0) b ≡ b

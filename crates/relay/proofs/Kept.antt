@@ -20,7 +20,7 @@ use Rattle.relay.specs.declared.Post.{Post}
 use Rattle.relay.proofs.Accepted.{event-cases}
 use Rattle.relay.proofs.Cases.{accepted-case}
 use Rattle.relay.proofs.Facts.{PostOk, SectionOk, ValidLine, valid-iff, kind-iff}
-use Rattle.relay.proofs.Frame.{Replaced, swapped, taken-replaces, neighbour-section, neighbour-post, neighbour-beside, neighbour-within}
+use Rattle.relay.proofs.Frame.{Replaced, swapped, taken-replaces, neighbour-beside, neighbour-within}
 use Rattle.relay.proofs.KeptPosts.{kind-small, not-terminus, Two, later, Kept, single, back, onward, keeps}
 use Rattle.relay.proofs.Rules.{rules}
 use Rattle.relay.proofs.Truth.{facts, and-facts, requires-facts, every, every-one, equal-or-not, split}
@@ -61,11 +61,11 @@ module _ {l l′ : List Post} {h h′ : Head} (r : ValidLine l h) (room : h .tak
           (λ g. rw (g, R .second, R .rest (j + 1) (omega arith) (omega arith)) (T .below (at l (j + 1)) (r .sections j (omega arith))))
           (λ g. rw (R .rest k e g, R .rest (k + 1) f (omega arith)) (r .sections k m))))
 
-  -- post i and its neighbour j are replaced, as event n keeps them
-  kept-valid : {n i j : ℕ} {b : Pair} → (8 ≤ n → j ≡ i + 1) → (n < 8 → (i ≡ 0 → ⊥) → i ≡ j + 1) → (j ≡ i + 1) ⊎ (i ≡ j + 1)
-      → i < length l → j < length l → Kept (length l) i (h .taken) (at l i) (at l j) n b → Replaced l l′ i j (b .here) (b .other)
+  -- post i and its neighbour j are replaced, as an event keeps them
+  kept-valid : {i j : ℕ} {b : Pair} → (j ≡ i + 1) ⊎ (i ≡ j + 1)
+      → i < length l → j < length l → Kept (length l) i j (h .taken) (at l i) (at l j) b → Replaced l l′ i j (b .here) (b .other)
       → ValidLine l′ h′
-  kept-valid {i = i} {j = j} {b = b} f g k x y (single z o) R =
+  kept-valid {i} {j} {b} k x y (single z o) R =
       let other : PostOk (length l) j (h .taken + 1) (b .other) = rw z (later (r .each j y)) in
       ⊎-elim
       (λ e.
@@ -75,10 +75,8 @@ module _ {l l′ : List Post} {h h′ : Head} (r : ValidLine l h) (room : h .tak
       two-valid e (swapped R)
       (record { upper = other; lower = o .post; above = λ u s. rw z s; between = rw z (o .above (at l j) (section r j i e x)); below = o .below }))
       k
-  kept-valid {i = i} {j = j} f g k x y (back c d two) R =
-      let e = g c d in
-      two-valid e (swapped R) (two j e x (r .each j y) (section r j i e x))
-  kept-valid {i = i} {j = j} f g k x y (onward c two) R = let e = f c in two-valid e R (two j e y (r .each j y) (section r i j e y))
+  kept-valid {i} {j} k x y (back e two) R = two-valid e (swapped R) (two x (r .each j y) (section r j i e x))
+  kept-valid {i} {j} k x y (onward e two) R = two-valid e R (two y (r .each j y) (section r i j e y))
 
 -- 'Every event keeps a valid line valid.'
 pub event-keeps : (l : List Post) (s : Head) (n i t : ℕ) → valid l s ≡ true
@@ -87,8 +85,7 @@ event-keeps l s n i t v =
     event-cases (λ a. valid (a .line) (a .told .head) ≡ true) l s n i t
     (λ r.
     valid-iff _ _ .1
-    (kept-valid (r .valid) (r .room) (omega (arith, r .room)) (neighbour-section n i) (neighbour-post n i) (neighbour-beside n i)
-    (r .place) (neighbour-within l s n i t r)
+    (kept-valid (r .valid) (r .room) (omega (arith, r .room)) (neighbour-beside n i) (r .place) (neighbour-within l s n i t r)
     (keeps (r .room) (r .valid .each i (r .place)) (accepted-case l s n i t r))
     (taken-replaces l s n i t r)))
     (λ e. v)
