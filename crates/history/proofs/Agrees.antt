@@ -2,7 +2,7 @@
 -- Each case holds because the test that grows a count of the history is the test that grows the count of the record.
 use Prim.Native.Nat.{ℕ, _+_, _≤_, _<_}
 use mathlib.Core.Path.{_≡_, refl}
-use mathlib.Core.Bool.{Bool, true, false, _&&_}
+use mathlib.Core.Bool.{Bool, true, false, _&&_, _||_}
 use mathlib.Core.List.{List, [], _∷_}
 use native.Mathlib.Omega.{arith}
 use borrow.Author.Tests.{eqb-true}
@@ -19,7 +19,7 @@ use Rattle.relay.specs.declared.Post.{Post}
 use Rattle.relay.proofs.Cases.{sentBack, underWay, Taken, reverse, normalise, pass, pass-idle, strike-block, strike-close, strike-idle, announce, release, garage, announcement-arrives, release-arrives, announcement-lost, release-lost, restore}
 use Rattle.relay.proofs.Facts.{PostOk, SectionOk}
 use Rattle.relay.proofs.KeptPosts.{Alike, alike}
-use Rattle.relay.proofs.Truth.{ones, up-or-down, split}
+use Rattle.relay.proofs.Truth.{ones, up-or-down, split, or-facts}
 use Rattle.relay.proofs.Word.{relays}
 use Rattle.history.specs.History.{Entry, entry, did, announces, releases, lastSent, receives, loses, announced, records, passed, tally, announcementsSent, releasesSent, garageReleases, received, lost, restorations, passages}
 
@@ -101,8 +101,14 @@ pub data Moves (n i j t : ℕ) (h : List Entry) (p o : Post) (b : Pair) : Type 0
       → Moves n i j t h p o b
 
 -- what is under way was last sent
-pub last-is : (b : Bool) (m k : ℕ) → one b ≤ one (eqb m k) → b ≡ true → m ≡ k
+last-is : (b : Bool) (m k : ℕ) → one b ≤ one (eqb m k) → b ≡ true → m ≡ k
 last-is b m k f e = split (eqb m k) (λ c. eqb-true m k c) (λ c. absurd (omega (arith, ones, rw (e, c) at f)))
+
+announcement-sent : (s : ℕ) (h : List Entry) (p d : Post) → Agrees s h p d → up W314 (p .word) ≡ true → lastSent s h ≡ 314
+announcement-sent s h p d z = last-is (up W314 (p .word)) (lastSent s h) 314 (z .announcement-last)
+
+pub release-sent : (s : ℕ) (h : List Entry) (p d : Post) → Agrees s h p d → up W241 (p .word) ≡ true → lastSent s h ≡ 241
+release-sent s h p d z = last-is (up W241 (p .word)) (lastSent s h) 241 (z .release-last)
 
 -- two relays that are the same number are the same
 one-same : (b c : Bool) → one b ≡ one c → c ≡ b
@@ -111,12 +117,30 @@ one-same false false e = refl
 one-same true false e = absurd (omega arith)
 one-same false true e = absurd (omega arith)
 
+-- An and KPg are what the history says
+recorded : (s : ℕ) (h : List Entry) (u p : Post) → Agrees s h u p → (announced s h ≡ up An (p .word)) × (passed s h ≡ up KPg (p .word))
+recorded s h u p z = (
+  one-same (up An (p .word)) (announced s h) (z .received-since),
+  one-same (up KPg (p .word)) (passed s h) (z .passed-since),
+)
+
 -- ---- each case of an event
+-- 1, 2 and 4 are counted nowhere
+uncounted : (n i t : ℕ) (h : List Entry) (s : ℕ) (u d : Post) → (eqb n 1 || (eqb n 2 || eqb n 4)) ≡ true → Agrees s h u d
+    → Agrees s (more n i t h) u d
+unfolding counting
+uncounted n i t h s u d q z =
+    or-facts (eqb n 1) (eqb n 2 || eqb n 4) (λ e. rw (eqb-true n 1 e) (omega arith))
+    (or-facts (eqb n 2) (eqb n 4) (λ e. rw (eqb-true n 2 e) (omega arith)) (λ e. rw (eqb-true n 4 e) (omega arith)))
+    q
+
 module _ {N T i j t : ℕ} {h : List Entry} {p o : Post} (room : T < mostEvents) (r : PostOk N i T p) where
-  -- 1, 2 and 4: no count is of these events, and the word w looks from the sections as before
-  unseen : {n w : ℕ} → ((s : ℕ) (u d : Post) → Agrees s h u d → Agrees s (more n i t h) u d) → Alike w (p .word)
-      → Moves n i j t h p o (pair (wordTo w p) o)
-  unseen q e = single refl (λ s d f k z. simp (e .3, e .4) (q s p d z)) (λ s u f z. simp (e .0, e .1) (q s u p z))
+  -- 1, 2 and 4, with a word w that looks from the sections as before
+  unseen : {n w : ℕ} → (eqb n 1 || (eqb n 2 || eqb n 4)) ≡ true → Alike w (p .word) → Moves n i j t h p o (pair (wordTo w p) o)
+  unseen {n} q e =
+      single refl
+      (λ s d f k z. simp (e .3, e .4) (uncounted n i t h s p d q z))
+      (λ s u f z. simp (e .0, e .1) (uncounted n i t h s u p q z))
 
   -- 3, a passage recorded
   passes : up An (p .word) ≡ true → up KPg (p .word) ≡ false → Moves 3 i j t h p o (pair (more-q (wordTo (raise KPg (p .word)) p)) o)
@@ -124,9 +148,8 @@ module _ {N T i j t : ℕ} {h : List Entry} {p o : Post} (room : T < mostEvents)
   passes b c =
       single refl (λ s d f k z. simp (relays, f .1) (omega arith))
       (λ s u f z.
-      let x : announced s h ≡ up An (p .word) = one-same (up An (p .word)) (announced s h) (z .received-since) in
-      let y : passed s h ≡ up KPg (p .word) = one-same (up KPg (p .word)) (passed s h) (z .passed-since) in
-      simp (relays, f .1, x, y, b, c) (omega (arith, ones, r .counts)))
+      let x = recorded s h u p z in
+      simp (relays, f .1, x .0, x .1, b, c) (omega (arith, ones, r .counts)))
 
   -- 3 with no effect
   passes-idle : (up An (p .word) ≡ true → up KPg (p .word) ≡ true) → Moves 3 i j t h p o (pair p o)
@@ -134,11 +157,10 @@ module _ {N T i j t : ℕ} {h : List Entry} {p o : Post} (room : T < mostEvents)
   passes-idle b =
       single refl (λ s d f k z. simp (f .1) (omega arith))
       (λ s u f z.
-      let x : announced s h ≡ up An (p .word) = one-same (up An (p .word)) (announced s h) (z .received-since) in
-      let y : passed s h ≡ up KPg (p .word) = one-same (up KPg (p .word)) (passed s h) (z .passed-since) in
+      let x = recorded s h u p z in
       split (up An (p .word))
-      (λ e. simp (f .1, x, y, e, b e) (omega (arith, ones)))
-      (λ e. simp (f .1, x, y, e) (omega (arith, ones))))
+      (λ e. simp (f .1, x .0, x .1, e, b e) (omega (arith, ones)))
+      (λ e. simp (f .1, x .0, x .1, e) (omega (arith, ones))))
 
   -- 5, an announcement sent
   sends : up RL (p .word) ≡ true → Moves 5 i j t h p o (pair (more-a (wordTo (raise W314 (lower L (lower RL (p .word)))) p)) o)
@@ -171,9 +193,7 @@ module _ {N T i j t : ℕ} {h : List Entry} {p o : Post} (room : T < mostEvents)
   unfolding counting
   announcement-in k a =
       onward k
-      (λ s f k z.
-      let x : lastSent s h ≡ 314 = last-is (up W314 (p .word)) (lastSent s h) 314 (z .announcement-last) a in
-      simp (relays, f .0, x) (omega (arith, ones, r .counts, up-or-down (up RL (p .word)))))
+      (λ s f k z. simp (relays, f .0, announcement-sent s h p o z a) (omega (arith, ones, r .counts, up-or-down (up RL (p .word)))))
       (λ s u f z. simp (relays, f .0) (omega arith))
       (λ s d f z. simp (relays, f .0) (omega arith))
 
@@ -183,9 +203,7 @@ module _ {N T i j t : ℕ} {h : List Entry} {p o : Post} (room : T < mostEvents)
   unfolding counting
   release-in a b =
       single refl
-      (λ s d f k z.
-      let x : lastSent s h ≡ 241 = last-is (up W241 (p .word)) (lastSent s h) 241 (z .release-last) b in
-      simp (relays, f .0, x) (omega (arith, ones, r .counts, up-or-down (up RL (p .word)))))
+      (λ s d f k z. simp (relays, f .0, release-sent s h p d z b) (omega (arith, ones, r .counts, up-or-down (up RL (p .word)))))
       (λ s u f z. simp (relays, f .0) (omega arith))
 
   -- 9, an announcement lost
@@ -193,9 +211,7 @@ module _ {N T i j t : ℕ} {h : List Entry} {p o : Post} (room : T < mostEvents)
   unfolding counting
   announcement-gone a =
       single refl
-      (λ s d f k z.
-      let x : lastSent s h ≡ 314 = last-is (up W314 (p .word)) (lastSent s h) 314 (z .announcement-last) a in
-      simp (relays, f .0, x) (omega (arith, ones, r .counts, up-or-down (up RL (p .word)))))
+      (λ s d f k z. simp (relays, f .0, announcement-sent s h p d z a) (omega (arith, ones, r .counts, up-or-down (up RL (p .word)))))
       (λ s u f z. simp (relays, f .0) (omega arith))
 
   -- 9, a release lost
@@ -204,9 +220,7 @@ module _ {N T i j t : ℕ} {h : List Entry} {p o : Post} (room : T < mostEvents)
   unfolding counting
   release-gone a b =
       single refl
-      (λ s d f k z.
-      let x : lastSent s h ≡ 241 = last-is (up W241 (p .word)) (lastSent s h) 241 (z .release-last) b in
-      simp (relays, f .0, x) (omega (arith, ones, r .counts, up-or-down (up RL (p .word)))))
+      (λ s d f k z. simp (relays, f .0, release-sent s h p d z b) (omega (arith, ones, r .counts, up-or-down (up RL (p .word)))))
       (λ s u f z. simp (relays, f .0) (omega arith))
 
   -- 10, a restoration
@@ -217,27 +231,16 @@ module _ {N T i j t : ℕ} {h : List Entry} {p o : Post} (room : T < mostEvents)
       (λ s d f k z. simp (relays, f .0) (omega (arith, r .counts)))
       (λ s u f z. simp (relays, f .0) (omega arith))
 
--- 1, 2 and 4 are counted nowhere
-uncounted : (i t : ℕ) (h : List Entry) (s : ℕ) (u d : Post) → Agrees s h u d
-    → Agrees s (more 1 i t h) u d × Agrees s (more 2 i t h) u d × Agrees s (more 4 i t h) u d
-unfolding counting
-uncounted i t h s u d z = (omega arith, omega arith, omega arith)
-
 -- every case
 pub moves : {N T n i j t : ℕ} {h : List Entry} {p o : Post} {b : Pair} → T < mostEvents → PostOk N i T p → Taken i j p o n b
     → Moves n i j t h p o b
-moves {i = i} {t = t} {h = h} {p = p} room r (reverse a b) =
-    unseen room r (λ s u d z. uncounted i t h s u d z .0) (simp relays (alike (p .word)))
-moves {i = i} {t = t} {h = h} {p = p} room r (normalise a) =
-    unseen room r (λ s u d z. uncounted i t h s u d z .1) (simp relays (alike (p .word)))
+moves {p = p} room r (reverse a b) = unseen room r refl (simp relays (alike (p .word)))
+moves {p = p} room r (normalise a) = unseen room r refl (simp relays (alike (p .word)))
 moves room r (pass a b c) = passes room r b c
 moves room r (pass-idle a b) = passes-idle room r b
-moves {i = i} {t = t} {h = h} {p = p} room r (strike-block a b) =
-    unseen room r (λ s u d z. uncounted i t h s u d z .2) (simp relays (alike (p .word)))
-moves {i = i} {t = t} {h = h} {p = p} room r (strike-close a b) =
-    unseen room r (λ s u d z. uncounted i t h s u d z .2) (simp relays (alike (p .word)))
-moves {i = i} {t = t} {h = h} {p = p} room r (strike-idle a b) =
-    unseen room r (λ s u d z. uncounted i t h s u d z .2) (alike (p .word))
+moves {p = p} room r (strike-block a b) = unseen room r refl (simp relays (alike (p .word)))
+moves {p = p} room r (strike-close a b) = unseen room r refl (simp relays (alike (p .word)))
+moves {p = p} room r (strike-idle a b) = unseen room r refl (alike (p .word))
 moves room r (announce a b c) = sends room r b
 moves room r (release k a b c d e) = sends-back room r k b c
 moves room r (garage k a b c) = sends-garage room r k b c

@@ -1,5 +1,5 @@
--- After any run the line is valid, and what its history says of each section is what the records say.
--- It holds of a fresh line, where all counts are zero, and every event keeps it: proofs/Agrees.antt says what becomes of the section, whichever of its posts the event alters.
+-- Whatever befalls a line, and so after any run, it is valid, and what its history says of each section is what the records say.
+-- It holds of a fresh line, where all counts are zero. What is refused from outside or happens elsewhere alters no record and grows no count; every event keeps it: proofs/Agrees.antt says what becomes of the section, whichever of its posts the event alters.
 use Prim.Native.Nat.{ℕ, zero, suc, _+_, _≤_, _<_}
 use mathlib.Core.Path.{_≡_, refl, sym, ap, _∙_}
 use mathlib.Core.Bool.{true}
@@ -10,19 +10,21 @@ use lib.ListN.{length, getD}
 use Rattle.relay.specs.Examples.{Event}
 use Rattle.relay.specs.Line.{freshLine, startable, startOf, changedLine, head}
 use Rattle.relay.specs.Posts.{at, freshPost}
-use Rattle.relay.specs.Valid.{valid}
+use Rattle.relay.specs.Valid.{valid, mostEvents}
 use Rattle.relay.specs.declared.Head.{Head}
 use Rattle.relay.specs.declared.Pair.{Pair}
 use Rattle.relay.specs.declared.Post.{Post}
 use Rattle.relay.proofs.Accepted.{event-cases}
 use Rattle.relay.proofs.Cases.{accepted-case}
-use Rattle.relay.proofs.Facts.{SectionOk}
+use Rattle.relay.proofs.Facts.{SectionOk, valid-iff}
 use Rattle.relay.proofs.Frame.{Replaced, taken-replaces, length-stays}
+use Rattle.relay.proofs.Fresh.{length-fresh}
 use Rattle.relay.proofs.Kept.{event-keeps, fresh-valid}
 use Rattle.relay.proofs.Truth.{equal-or-not}
 use Rattle.history.specs.History.{Entry}
-use Rattle.history.specs.Run.{State, next, step, run, begun}
+use Rattle.history.specs.Run.{State, next, step, run, begun, Befalls, given-event, refused-outside, moved-elsewhere, Reached, at-first}
 use Rattle.history.proofs.Agrees.{Agrees, Below, Above, Apart, more, apart, refused, Moves, single, back, onward, moves, fresh-agrees}
+use Rattle.history.proofs.Reached.{always, run-reached}
 
 -- ---- the line l′ that an event n at post i leaves of l, its neighbour being post j
 -- where the neighbour is as it was, no post but the one named is altered
@@ -143,12 +145,55 @@ step-sound e w r =
           event-agrees e (w .history) (w .line) (w .head) s fits (r .agrees s fits);
     }
 
--- every run keeps them
-pub run-sound : (es : List Event) (w : State) → Sound w → Sound (run es w)
-unfolding run
-run-sound [] w r = r
-run-sound (e ∷ es) w r = run-sound es (step e w) (step-sound e w r)
+-- a valid line stays valid while events are taken elsewhere
+later-valid : (l : List Post) (s s′ : Head) → s .taken ≤ s′ .taken → s′ .taken ≤ mostEvents → valid l s ≡ true → valid l s′ ≡ true
+later-valid l s s′ k m v =
+    let r = valid-iff l s .0 v in
+    valid-iff l s′ .1
+    (record {
+      least = r .least;
+      most = r .most;
+      session = omega arith;
+      each = λ i f.
+          let p = r .each i f in
+          record { kind = p .kind; word = p .word; zeros = p .zeros; counts = omega (arith, p .counts) };
+      sections = r .sections;
+    })
 
+-- whatever befalls the line keeps both
+pub befalls-sound : {w v : State} → Befalls w v → Sound w → Sound v
+befalls-sound {w} (given-event e) r = step-sound e w r
+befalls-sound {w} (refused-outside e n f) r =
+    record {
+      valid = r .valid;
+      agrees = λ s k.
+          refused e n (w .history) s (at (w .line) s) (at (w .line) (s + 1)) (ne-eqb n 0 (λ z. omega arith)) (r .agrees s k);
+    }
+befalls-sound {w} (moved-elsewhere s f g) r =
+    record { valid = later-valid (w .line) (w .head) s (omega arith) (omega arith) (r .valid); agrees = r .agrees }
+
+-- nothing alters the number of posts
+befalls-length : {w v : State} → Befalls w v → length (v .line) ≡ length (w .line)
+befalls-length {w} (given-event e) = step-length e w
+befalls-length (refused-outside e n f) = refl
+befalls-length (moved-elsewhere s f g) = refl
+
+-- ---- the states reached
+pub reached-sound : {b w : State} → Reached b w → Sound b → Sound w
+reached-sound r = always Sound (λ w v x. befalls-sound x) r
+
+pub reached-length : {b w : State} → Reached b w → length (w .line) ≡ length (b .line)
+reached-length {b} r = always (λ w. length (w .line) ≡ length (b .line)) (λ w v x e. befalls-length x ∙ e) r refl
+
+-- every run keeps both
+pub run-sound : (es : List Event) (w : State) → Sound w → Sound (run es w)
+run-sound es w = reached-sound (run-reached es w at-first)
+
+-- no run alters the number of posts
+pub run-length : (es : List Event) (w : State) → length (run es w .line) ≡ length (w .line)
+run-length es w = reached-length (run-reached es w at-first)
+
+-- ---- a line just started
 -- post i of a fresh line is a fresh post
 fresh-at : (ks : List ℕ) (i : ℕ) → i < length ks → at (freshLine ks) i ≡ freshPost (getD ks i 0)
 unfolding freshLine
@@ -156,22 +201,10 @@ fresh-at [] i f = absurd (omega arith)
 fresh-at (k ∷ ks) zero f = refl
 fresh-at (k ∷ ks) (suc i) f = fresh-at ks i (omega arith)
 
--- a fresh line has a post for each kind
-fresh-length : (ks : List ℕ) → length (freshLine ks) ≡ length ks
-unfolding freshLine
-fresh-length [] = refl
-fresh-length (k ∷ ks) = ap suc (fresh-length ks)
-
--- no run alters the number of posts
-pub run-length : (es : List Event) (w : State) → length (run es w .line) ≡ length (w .line)
-unfolding run
-run-length [] w = refl
-run-length (e ∷ es) w = run-length es (step e w) ∙ step-length e w
-
 -- a line just started has a post for each kind
 pub begun-length : (l : List Post) (ks : List ℕ) (t : ℕ) → startable l ks ≡ true → length (begun l ks t .line) ≡ length ks
 unfolding begun startOf
-begun-length l ks t e = rw e (fresh-length ks)
+begun-length l ks t e = rw e (length-fresh ks)
 
 -- a line just started is sound
 pub begun-sound : (l : List Post) (ks : List ℕ) (t : ℕ) → startable l ks ≡ true → Sound (begun l ks t)
@@ -181,6 +214,6 @@ begun-sound l ks t e =
     (record {
       valid = fresh-valid l ks t e;
       agrees = λ s k.
-          let x : s + 1 < length ks = omega (arith, fresh-length ks) in
+          let x : s + 1 < length ks = omega (arith, length-fresh ks) in
           rw (fresh-at ks s (omega arith), fresh-at ks (s + 1) x) (fresh-agrees s (getD ks s 0) (getD ks (s + 1) 0));
     })
