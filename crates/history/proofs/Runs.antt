@@ -1,6 +1,6 @@
 -- Whatever befalls a line, and so after any run, it is valid, and what its history says of each section is what the records say.
 -- It holds of a fresh line, where all counts are zero. What is refused from outside or happens elsewhere alters no record and grows no count; every event keeps it: proofs/Agrees.antt says what becomes of the section, whichever of its posts the event alters.
-use Prim.Native.Nat.{ℕ, zero, suc, _+_, _≤_, _<_}
+use Prim.Native.Nat.{ℕ, zero, suc, _+_, _<_}
 use mathlib.Core.Path.{_≡_, refl, sym, ap, _∙_}
 use mathlib.Core.Bool.{true}
 use mathlib.Core.List.{List, [], _∷_}
@@ -10,16 +10,16 @@ use lib.ListN.{length, getD}
 use Rattle.relay.specs.Examples.{Event}
 use Rattle.relay.specs.Line.{freshLine, startable, startOf, changedLine, head}
 use Rattle.relay.specs.Posts.{at, freshPost}
-use Rattle.relay.specs.Valid.{valid, mostEvents}
+use Rattle.relay.specs.Valid.{valid}
 use Rattle.relay.specs.declared.Head.{Head}
 use Rattle.relay.specs.declared.Pair.{Pair}
 use Rattle.relay.specs.declared.Post.{Post}
 use Rattle.relay.proofs.Accepted.{event-cases}
 use Rattle.relay.proofs.Cases.{accepted-case}
-use Rattle.relay.proofs.Facts.{SectionOk, valid-iff}
+use Rattle.relay.proofs.Facts.{SectionOk}
 use Rattle.relay.proofs.Frame.{Replaced, taken-replaces, length-stays}
 use Rattle.relay.proofs.Fresh.{length-fresh}
-use Rattle.relay.proofs.Kept.{event-keeps, fresh-valid}
+use Rattle.relay.proofs.Kept.{event-keeps, later-valid, fresh-valid}
 use Rattle.relay.proofs.Truth.{equal-or-not}
 use Rattle.history.specs.History.{Entry}
 use Rattle.history.specs.Run.{State, next, step, run, begun, Befalls, given-event, refused-outside, moved-elsewhere, Reached, at-first}
@@ -109,7 +109,7 @@ module _ {i j : ℕ} {b : Pair} (n t : ℕ) (h : List Entry) (l l′ : List Post
       (λ e. above-moves (ne-eqb i s d, eq-eqb i (s + 1) e) e m)
       (λ e. apart-moves (ne-eqb i s d, ne-eqb i (s + 1) e) d e m))
 
--- ---- a run
+-- ---- a state
 -- the line is valid, and each section agrees with the history
 pub record Sound (w : State) : Type 0 where
   pub valid : valid (w .line) (w .head) ≡ true
@@ -145,21 +145,6 @@ step-sound e w r =
           event-agrees e (w .history) (w .line) (w .head) s fits (r .agrees s fits);
     }
 
--- a valid line stays valid while events are taken elsewhere
-later-valid : (l : List Post) (s s′ : Head) → s .taken ≤ s′ .taken → s′ .taken ≤ mostEvents → valid l s ≡ true → valid l s′ ≡ true
-later-valid l s s′ k m v =
-    let r = valid-iff l s .0 v in
-    valid-iff l s′ .1
-    (record {
-      least = r .least;
-      most = r .most;
-      session = omega arith;
-      each = λ i f.
-          let p = r .each i f in
-          record { kind = p .kind; word = p .word; zeros = p .zeros; counts = omega (arith, p .counts) };
-      sections = r .sections;
-    })
-
 -- whatever befalls the line keeps both
 pub befalls-sound : {w v : State} → Befalls w v → Sound w → Sound v
 befalls-sound {w} (given-event e) r = step-sound e w r
@@ -179,6 +164,7 @@ befalls-length (refused-outside e n f) = refl
 befalls-length (moved-elsewhere s f g) = refl
 
 -- ---- the states reached
+-- both hold in every state reached from one where they do, and no post is more or less
 pub reached-sound : {b w : State} → Reached b w → Sound b → Sound w
 reached-sound r = always Sound (λ w v x. befalls-sound x) r
 

@@ -1,7 +1,7 @@
 -- 'Every event keeps a valid line valid', and a start that is taken leaves a valid line and head.
 -- An event keeps the line because it keeps the two posts that it may alter and the sections beside them (proofs/KeptPosts.antt), and all else stays; a fresh line is valid because every fresh post and section passes the test.
-use Prim.Native.Nat.{ℕ, suc, _+_, _≤_, _<_}
-use mathlib.Core.Path.{_≡_, refl, sym, ap}
+use Prim.Native.Nat.{ℕ, _+_, _≤_, _<_}
+use mathlib.Core.Path.{_≡_, refl, sym}
 use mathlib.Core.Bool.{true, not, _&&_}
 use mathlib.Core.List.{List, [], _∷_}
 use mathlib.Core.Logic.{_⊎_, ⊎-elim}
@@ -21,6 +21,7 @@ use Rattle.relay.proofs.Accepted.{event-cases}
 use Rattle.relay.proofs.Cases.{accepted-case}
 use Rattle.relay.proofs.Facts.{PostOk, SectionOk, ValidLine, valid-iff, kind-iff}
 use Rattle.relay.proofs.Frame.{Replaced, swapped, taken-replaces, neighbour-beside, neighbour-within}
+use Rattle.relay.proofs.Fresh.{length-fresh}
 use Rattle.relay.proofs.KeptPosts.{kind-small, not-terminus, Two, later, Kept, single, back, onward, keeps}
 use Rattle.relay.proofs.Rules.{rules}
 use Rattle.relay.proofs.Truth.{facts, and-facts, requires-facts, every, every-one, equal-or-not, split}
@@ -47,7 +48,7 @@ module _ {l l′ : List Post} {h h′ : Head} (r : ValidLine l h) (room : h .tak
       each k m =
           equal-or-not k i
           (λ e. rw (e, R .first) (T .upper))
-          (λ e. equal-or-not k j (λ f. rw (f, R .second) (T .lower)) (λ f. rw (R .rest k e f) (later (r .each k m))))
+          (λ e. equal-or-not k j (λ f. rw (f, R .second) (T .lower)) (λ f. rw (R .rest k e f) (later (omega arith) (r .each k m))))
 
       sections : (k : ℕ) → k + 1 < length l → SectionOk (at l′ k) (at l′ (k + 1))
       sections k m =
@@ -66,7 +67,7 @@ module _ {l l′ : List Post} {h h′ : Head} (r : ValidLine l h) (room : h .tak
       → i < length l → j < length l → Kept (length l) i j (h .taken) (at l i) (at l j) b → Replaced l l′ i j (b .here) (b .other)
       → ValidLine l′ h′
   kept-valid {i} {j} {b} k x y (single z o) R =
-      let other : PostOk (length l) j (h .taken + 1) (b .other) = rw z (later (r .each j y)) in
+      let other : PostOk (length l) j (h .taken + 1) (b .other) = rw z (later (omega arith) (r .each j y)) in
       ⊎-elim
       (λ e.
       two-valid e R
@@ -89,6 +90,13 @@ event-keeps l s n i t v =
     (keeps (r .room) (r .valid .each i (r .place)) (accepted-case l s n i t r))
     (taken-replaces l s n i t r)))
     (λ e. v)
+
+-- a valid line stays valid while events are taken elsewhere, up to 1,000,000
+pub later-valid : (l : List Post) (s s′ : Head) → s .taken ≤ s′ .taken → s′ .taken ≤ mostEvents → valid l s ≡ true → valid l s′ ≡ true
+later-valid l s s′ k m v =
+    let r = valid-iff l s .0 v in
+    valid-iff l s′ .1
+    (record { least = r .least; most = r .most; session = m; each = λ i f. later k (r .each i f); sections = r .sections })
 
 -- ---- a fresh line
 -- a fresh post keeps the rules of a post
@@ -138,18 +146,12 @@ fresh-sections (k ∷ ks) e =
     let f = and-facts _ _ .0 e in
     fresh-from (length (k ∷ ks)) 0 k ks (omega arith) (f .0) (f .1)
 
--- it has a post for each kind
-fresh-length : (ks : List ℕ) → length (freshLine ks) ≡ length ks
-unfolding freshLine
-fresh-length [] = refl
-fresh-length (k ∷ ks) = ap suc (fresh-length ks)
-
 -- a line started from a right table is valid, with no event taken
 pub fresh-valid : (l : List Post) (ks : List ℕ) (t : ℕ) → startable l ks ≡ true → valid (freshLine ks) (head 0 t) ≡ true
 unfolding startable tableOk valid
 fresh-valid l ks t e =
     let f = simp and-facts at e in
-    rw fresh-length (simp and-facts (f .1 .0, (fresh-posts (length ks) 0 ks (f .1 .1), fresh-sections ks (f .1 .1))))
+    rw length-fresh (simp and-facts (f .1 .0, (fresh-posts (length ks) 0 ks (f .1 .1), fresh-sections ks (f .1 .1))))
 
 -- a start that is taken leaves a valid line and head; one that is refused 'leaves the row as lent and returns a head of zeros'
 pub start-leaves : (l : List Post) (ks : List ℕ) (t : ℕ)

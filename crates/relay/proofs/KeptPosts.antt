@@ -50,9 +50,9 @@ pub record Two (n i j t : ℕ) (u d u′ d′ : Post) : Type 0 where
   pub between : SectionOk u′ d′
   pub below : (y : Post) → SectionOk d y → SectionOk d′ y
 
--- a post that is not altered is kept
-pub later : {n i t : ℕ} {p : Post} → PostOk n i t p → PostOk n i (t + 1) p
-later r = record { kind = r .kind; word = r .word; zeros = r .zeros; counts = omega (arith, r .counts) }
+-- a post that is not altered is kept, however many events are taken meanwhile
+pub later : {n i t u : ℕ} {p : Post} → t ≤ u → PostOk n i t p → PostOk n i u p
+later k r = record { kind = r .kind; word = r .word; zeros = r .zeros; counts = omega (arith, r .counts) }
 
 -- two words that look alike from the sections beside a post
 abbrev pub Alike : ℕ → ℕ → Type 0
@@ -117,7 +117,7 @@ module _ {n i t : ℕ} {p : Post} (r : PostOk n i t p) where
 
   -- a strike with no effect
   idle : One n i t p p
-  idle = record { post = later r; above = λ x s. s; below = λ y s. s }
+  idle = record { post = later (omega arith) r; above = λ x s. s; below = λ y s. s }
 
   -- 3. a passage is recorded
   passes : t < mostEvents → (p .kind ≡ origin → ⊥) → up An (p .word) ≡ true → up KPg (p .word) ≡ false
@@ -162,7 +162,7 @@ module _ {n i j t : ℕ} {u d : Post} (room : t < mostEvents) (next : j ≡ i + 
   upstream k c e b =
       record {
         upper = up-to U u-kind k c;
-        lower = later D;
+        lower = later (omega arith) D;
         above = λ x z. simp (e .0, e .1) z;
         between = b;
         below = λ y z. z;
