@@ -2,22 +2,24 @@
 -- Each case holds because the test that grows a count of the history is the test that grows the count of the record.
 use Prim.Native.Nat.{ℕ, _+_, _≤_, _<_}
 use mathlib.Core.Path.{_≡_, refl}
-use mathlib.Core.Bool.{Bool, true, false, _&&_, false≢true}
+use mathlib.Core.Bool.{Bool, true, false, _&&_, _||_}
 use mathlib.Core.List.{List, [], _∷_}
 use native.Mathlib.Omega.{arith}
 use borrow.Author.Tests.{eqb-true}
 use lib.Dec.{eqb}
-use Rattle.relay.specs.Choice.{one}
+use Rattle.relay.specs.Choice.{one, grown}
+use Rattle.relay.specs.Events.{pair}
 use Rattle.relay.specs.Examples.{Event, ev-at}
-use Rattle.relay.specs.Kinds.{origin, terminus, hasGarageRelease}
-use Rattle.relay.specs.Posts.{freshWord, freshPost}
-use Rattle.relay.specs.Relays.{An, KPg, RL, W314, W241, up, raise}
+use Rattle.relay.specs.Kinds.{terminus}
+use Rattle.relay.specs.Posts.{wordTo, more-a, more-x, more-y, more-v, more-g, more-r, more-q, freshWord, freshPost}
+use Rattle.relay.specs.Relays.{An, KPg, L, RL, W314, W241, up, raise, lower}
 use Rattle.relay.specs.Valid.{mostEvents}
 use Rattle.relay.specs.declared.Pair.{Pair}
 use Rattle.relay.specs.declared.Post.{Post}
-use Rattle.relay.proofs.Cases.{Taken, reverse, normalise, pass, pass-idle, strike-block, strike-close, strike-idle, announce, release, garage, announcement-arrives, release-arrives, announcement-lost, release-lost, restore}
+use Rattle.relay.proofs.Cases.{sentBack, underWay, Taken, reverse, normalise, pass, pass-idle, strike-block, strike-close, strike-idle, announce, release, garage, announcement-arrives, release-arrives, announcement-lost, release-lost, restore}
 use Rattle.relay.proofs.Facts.{PostOk, SectionOk}
-use Rattle.relay.proofs.Truth.{ones, up-or-down, split}
+use Rattle.relay.proofs.KeptPosts.{Alike, alike}
+use Rattle.relay.proofs.Truth.{ones, up-or-down, split, or-facts}
 use Rattle.relay.proofs.Word.{relays}
 use Rattle.history.specs.History.{Entry, entry, did, announces, releases, lastSent, receives, loses, announced, records, passed, tally, announcementsSent, releasesSent, garageReleases, received, lost, restorations, passages}
 
@@ -78,29 +80,35 @@ pub refused : (e : Event) (n : ℕ) (h : List Entry) (s : ℕ) (u d : Post) → 
 unfolding counting
 refused e n h s u d f z = simp f (omega arith)
 
--- ---- what event n at post i keeps: p is the post named, o its neighbour, b the two as the event leaves them
-pub data Moves (n i t : ℕ) (h : List Entry) (p o : Post) (b : Pair) : Type 0 where
+-- ---- what event n at post i keeps, its neighbour being post j: p is the post named, o the neighbour, b the two as the event leaves them
+pub data Moves (n i j t : ℕ) (h : List Entry) (p o : Post) (b : Pair) : Type 0 where
   -- the neighbour is not altered
   single : b .other ≡ o
       → ((s : ℕ) (d : Post) → Below i s → SectionOk p d → Agrees s h p d → Agrees s (more n i t h) (b .here) d)
       → ((s : ℕ) (u : Post) → Above i s → Agrees s h u p → Agrees s (more n i t h) u (b .here))
-      → Moves n i t h p o b
-  -- the neighbour is upstream
-  back : n < 8 → (i ≡ 0 → ⊥)
+      → Moves n i j t h p o b
+  -- the neighbour is the post before
+  back : i ≡ j + 1
       → ((s : ℕ) → Above i s → SectionOk o p → Agrees s h o p → Agrees s (more n i t h) (b .other) (b .here))
       → ((s : ℕ) (d : Post) → Below i s → Agrees s h p d → Agrees s (more n i t h) (b .here) d)
       → ((s : ℕ) (u : Post) → Apart i s → Agrees s h u o → Agrees s (more n i t h) u (b .other))
-      → Moves n i t h p o b
-  -- the neighbour is downstream
-  onward : 8 ≤ n
+      → Moves n i j t h p o b
+  -- the neighbour is the next post
+  onward : j ≡ i + 1
       → ((s : ℕ) → Below i s → SectionOk p o → Agrees s h p o → Agrees s (more n i t h) (b .here) (b .other))
       → ((s : ℕ) (u : Post) → Above i s → Agrees s h u p → Agrees s (more n i t h) u (b .here))
       → ((s : ℕ) (d : Post) → Apart i s → Agrees s h o d → Agrees s (more n i t h) (b .other) d)
-      → Moves n i t h p o b
+      → Moves n i j t h p o b
 
 -- what is under way was last sent
-pub last-is : (b : Bool) (m k : ℕ) → one b ≤ one (eqb m k) → b ≡ true → m ≡ k
+last-is : (b : Bool) (m k : ℕ) → one b ≤ one (eqb m k) → b ≡ true → m ≡ k
 last-is b m k f e = split (eqb m k) (λ c. eqb-true m k c) (λ c. absurd (omega (arith, ones, rw (e, c) at f)))
+
+announcement-sent : (s : ℕ) (h : List Entry) (p d : Post) → Agrees s h p d → up W314 (p .word) ≡ true → lastSent s h ≡ 314
+announcement-sent s h p d z = last-is (up W314 (p .word)) (lastSent s h) 314 (z .announcement-last)
+
+pub release-sent : (s : ℕ) (h : List Entry) (p d : Post) → Agrees s h p d → up W241 (p .word) ≡ true → lastSent s h ≡ 241
+release-sent s h p d z = last-is (up W241 (p .word)) (lastSent s h) 241 (z .release-last)
 
 -- two relays that are the same number are the same
 one-same : (b c : Bool) → one b ≡ one c → c ≡ b
@@ -109,76 +117,138 @@ one-same false false e = refl
 one-same true false e = absurd (omega arith)
 one-same false true e = absurd (omega arith)
 
--- the origin has no garage release
-no-garage : (k : ℕ) → hasGarageRelease k ≡ true → k ≡ origin → ⊥
-unfolding hasGarageRelease
-no-garage k a e = false≢true (rw e at a)
+-- An and KPg are what the history says
+recorded : (s : ℕ) (h : List Entry) (u p : Post) → Agrees s h u p → (announced s h ≡ up An (p .word)) × (passed s h ≡ up KPg (p .word))
+recorded s h u p z = (
+  one-same (up An (p .word)) (announced s h) (z .received-since),
+  one-same (up KPg (p .word)) (passed s h) (z .passed-since),
+)
 
--- each case of an event
-pub moves : {N T n i t : ℕ} {h : List Entry} {p o : Post} {b : Pair} → T < mostEvents → PostOk N i T p → Taken p o n b → Moves n i t h p o b
+-- ---- each case of an event
+-- 1, 2 and 4 are counted nowhere
+uncounted : (n i t : ℕ) (h : List Entry) (s : ℕ) (u d : Post) → (eqb n 1 || (eqb n 2 || eqb n 4)) ≡ true → Agrees s h u d
+    → Agrees s (more n i t h) u d
 unfolding counting
-moves room r (reverse a b) = single refl (λ s d f k z. simp relays (omega arith)) (λ s u f z. simp relays (omega arith))
-moves room r (normalise a) = single refl (λ s d f k z. simp relays (omega arith)) (λ s u f z. simp relays (omega arith))
-moves {h = h} {p = p} room r (pass a b c) =
-    single refl (λ s d f k z. simp (relays, f .1) (omega arith))
-    (λ s u f z.
-    let x : announced s h ≡ up An (p .word) = one-same (up An (p .word)) (announced s h) (z .received-since) in
-    let y : passed s h ≡ up KPg (p .word) = one-same (up KPg (p .word)) (passed s h) (z .passed-since) in
-    simp (relays, f .1, x, y, b, c) (omega (arith, ones, r .counts)))
-moves {h = h} {p = p} room r (pass-idle a b) =
-    single refl (λ s d f k z. simp (f .1) (omega arith))
-    (λ s u f z.
-    let x : announced s h ≡ up An (p .word) = one-same (up An (p .word)) (announced s h) (z .received-since) in
-    let y : passed s h ≡ up KPg (p .word) = one-same (up KPg (p .word)) (passed s h) (z .passed-since) in
-    split (up An (p .word))
-    (λ e. simp (f .1, x, y, e, b e) (omega (arith, ones)))
-    (λ e. simp (f .1, x, y, e) (omega (arith, ones))))
-moves room r (strike-block a b) = single refl (λ s d f k z. simp relays (omega arith)) (λ s u f z. simp relays (omega arith))
-moves room r (strike-close a b) = single refl (λ s d f k z. simp relays (omega arith)) (λ s u f z. simp relays (omega arith))
-moves room r (strike-idle a b) = single refl (λ s d f k z. omega arith) (λ s u f z. omega arith)
-moves {h = h} {p = p} room r (announce a b c) =
-    single refl
-    (λ s d f k z. simp (relays, f .0) (omega (arith, ones, r .counts, up-or-down (up RL (p .word)))))
-    (λ s u f z. simp (relays, f .0) (omega arith))
-moves {o = o} room r (release a b c d e) =
-    back (omega arith) (λ z. a (r .kind .first z))
-    (λ s f k z. simp (relays, f .1) (omega (arith, ones, r .counts, up-or-down (up RL (o .word)))))
-    (λ s y f z. simp (relays, f .1) (omega arith))
-    (λ s u f z. simp (relays, f .1) (omega arith))
-moves {o = o} room r (garage a b c) =
-    back (omega arith) (λ z. no-garage _ a (r .kind .first z))
-    (λ s f k z. simp (relays, f .1) (omega (arith, ones, r .counts, up-or-down (up RL (o .word)))))
-    (λ s y f z. simp (relays, f .1) (omega arith))
-    (λ s u f z. simp (relays, f .1) (omega arith))
-moves {h = h} {p = p} room r (announcement-arrives a) =
-    onward (omega arith)
-    (λ s f k z.
-    let x : lastSent s h ≡ 314 = last-is (up W314 (p .word)) (lastSent s h) 314 (z .announcement-last) a in
-    simp (relays, f .0, x) (omega (arith, ones, r .counts, up-or-down (up RL (p .word)))))
-    (λ s u f z. simp (relays, f .0) (omega arith))
-    (λ s d f z. simp (relays, f .0) (omega arith))
-moves {h = h} {p = p} room r (release-arrives a b) =
-    single refl
-    (λ s d f k z.
-    let x : lastSent s h ≡ 241 = last-is (up W241 (p .word)) (lastSent s h) 241 (z .release-last) b in
-    simp (relays, f .0, x) (omega (arith, ones, r .counts, up-or-down (up RL (p .word)))))
-    (λ s u f z. simp (relays, f .0) (omega arith))
-moves {h = h} {p = p} room r (announcement-lost a) =
-    single refl
-    (λ s d f k z.
-    let x : lastSent s h ≡ 314 = last-is (up W314 (p .word)) (lastSent s h) 314 (z .announcement-last) a in
-    simp (relays, f .0, x) (omega (arith, ones, r .counts, up-or-down (up RL (p .word)))))
-    (λ s u f z. simp (relays, f .0) (omega arith))
-moves {h = h} {p = p} room r (release-lost a b) =
-    single refl
-    (λ s d f k z.
-    let x : lastSent s h ≡ 241 = last-is (up W241 (p .word)) (lastSent s h) 241 (z .release-last) b in
-    simp (relays, f .0, x) (omega (arith, ones, r .counts, up-or-down (up RL (p .word)))))
-    (λ s u f z. simp (relays, f .0) (omega arith))
-moves room r (restore a b c d) =
-    single refl
-    (λ s d f k z. simp (relays, f .0) (omega (arith, r .counts)))
-    (λ s u f z. simp (relays, f .0) (omega arith))
+uncounted n i t h s u d q z =
+    or-facts (eqb n 1) (eqb n 2 || eqb n 4) (λ e. rw (eqb-true n 1 e) (omega arith))
+    (or-facts (eqb n 2) (eqb n 4) (λ e. rw (eqb-true n 2 e) (omega arith)) (λ e. rw (eqb-true n 4 e) (omega arith)))
+    q
+
+module _ {N T i j t : ℕ} {h : List Entry} {p o : Post} (room : T < mostEvents) (r : PostOk N i T p) where
+  -- 1, 2 and 4, with a word w that looks from the sections as before
+  unseen : {n w : ℕ} → (eqb n 1 || (eqb n 2 || eqb n 4)) ≡ true → Alike w (p .word) → Moves n i j t h p o (pair (wordTo w p) o)
+  unseen {n} q e =
+      single refl
+      (λ s d f k z. simp (e .3, e .4) (uncounted n i t h s p d q z))
+      (λ s u f z. simp (e .0, e .1) (uncounted n i t h s u p q z))
+
+  -- 3, a passage recorded
+  passes : up An (p .word) ≡ true → up KPg (p .word) ≡ false → Moves 3 i j t h p o (pair (more-q (wordTo (raise KPg (p .word)) p)) o)
+  unfolding counting
+  passes b c =
+      single refl (λ s d f k z. simp (relays, f .1) (omega arith))
+      (λ s u f z.
+      let x = recorded s h u p z in
+      simp (relays, f .1, x .0, x .1, b, c) (omega (arith, ones, r .counts)))
+
+  -- 3 with no effect
+  passes-idle : (up An (p .word) ≡ true → up KPg (p .word) ≡ true) → Moves 3 i j t h p o (pair p o)
+  unfolding counting
+  passes-idle b =
+      single refl (λ s d f k z. simp (f .1) (omega arith))
+      (λ s u f z.
+      let x = recorded s h u p z in
+      split (up An (p .word))
+      (λ e. simp (f .1, x .0, x .1, e, b e) (omega (arith, ones)))
+      (λ e. simp (f .1, x .0, x .1, e) (omega (arith, ones))))
+
+  -- 5, an announcement sent
+  sends : up RL (p .word) ≡ true → Moves 5 i j t h p o (pair (more-a (wordTo (raise W314 (lower L (lower RL (p .word)))) p)) o)
+  unfolding counting
+  sends b =
+      single refl
+      (λ s d f k z. simp (relays, f .0) (omega (arith, ones, r .counts, up-or-down (up RL (p .word)))))
+      (λ s u f z. simp (relays, f .0) (omega arith))
+
+  -- 6 and 7, a release sent
+  sends-back : i ≡ j + 1 → up An (p .word) ≡ true → up KPg (p .word) ≡ true → Moves 6 i j t h p o (pair (sentBack (p .c) p) (underWay o))
+  unfolding counting
+  sends-back k b c =
+      back k
+      (λ s f k z. simp (relays, f .1) (omega (arith, ones, r .counts, up-or-down (up RL (o .word)))))
+      (λ s y f z. simp (relays, f .1) (omega arith))
+      (λ s u f z. simp (relays, f .1) (omega arith))
+
+  sends-garage : i ≡ j + 1 → up An (p .word) ≡ true → up KPg (p .word) ≡ true → Moves 7 i j t h p o (pair (sentBack (grown (p .c)) p) (underWay o))
+  unfolding counting
+  sends-garage k b c =
+      back k
+      (λ s f k z. simp (relays, f .1) (omega (arith, ones, r .counts, up-or-down (up RL (o .word)))))
+      (λ s y f z. simp (relays, f .1) (omega arith))
+      (λ s u f z. simp (relays, f .1) (omega arith))
+
+  -- 8, an announcement received
+  announcement-in : j ≡ i + 1 → up W314 (p .word) ≡ true
+      → Moves 8 i j t h p o (pair (wordTo (lower W314 (p .word)) p) (more-r (wordTo (raise An (o .word)) o)))
+  unfolding counting
+  announcement-in k a =
+      onward k
+      (λ s f k z. simp (relays, f .0, announcement-sent s h p o z a) (omega (arith, ones, r .counts, up-or-down (up RL (p .word)))))
+      (λ s u f z. simp (relays, f .0) (omega arith))
+      (λ s d f z. simp (relays, f .0) (omega arith))
+
+  -- 8, a release received
+  release-in : up W314 (p .word) ≡ false → up W241 (p .word) ≡ true
+      → Moves 8 i j t h p o (pair (more-v (wordTo (raise RL (raise L (lower W241 (p .word)))) p)) o)
+  unfolding counting
+  release-in a b =
+      single refl
+      (λ s d f k z. simp (relays, f .0, release-sent s h p d z b) (omega (arith, ones, r .counts, up-or-down (up RL (p .word)))))
+      (λ s u f z. simp (relays, f .0) (omega arith))
+
+  -- 9, an announcement lost
+  announcement-gone : up W314 (p .word) ≡ true → Moves 9 i j t h p o (pair (more-x (wordTo (lower W314 (p .word)) p)) o)
+  unfolding counting
+  announcement-gone a =
+      single refl
+      (λ s d f k z. simp (relays, f .0, announcement-sent s h p d z a) (omega (arith, ones, r .counts, up-or-down (up RL (p .word)))))
+      (λ s u f z. simp (relays, f .0) (omega arith))
+
+  -- 9, a release lost
+  release-gone : up W314 (p .word) ≡ false → up W241 (p .word) ≡ true
+      → Moves 9 i j t h p o (pair (more-y (wordTo (lower W241 (p .word)) p)) o)
+  unfolding counting
+  release-gone a b =
+      single refl
+      (λ s d f k z. simp (relays, f .0, release-sent s h p d z b) (omega (arith, ones, r .counts, up-or-down (up RL (p .word)))))
+      (λ s u f z. simp (relays, f .0) (omega arith))
+
+  -- 10, a restoration
+  restores : Moves 10 i j t h p o (pair (more-g (wordTo (raise RL (raise L (p .word))) p)) o)
+  unfolding counting
+  restores =
+      single refl
+      (λ s d f k z. simp (relays, f .0) (omega (arith, r .counts)))
+      (λ s u f z. simp (relays, f .0) (omega arith))
+
+-- every case
+pub moves : {N T n i j t : ℕ} {h : List Entry} {p o : Post} {b : Pair} → T < mostEvents → PostOk N i T p → Taken i j p o n b
+    → Moves n i j t h p o b
+moves {p = p} room r (reverse a b) = unseen room r refl (simp relays (alike (p .word)))
+moves {p = p} room r (normalise a) = unseen room r refl (simp relays (alike (p .word)))
+moves room r (pass a b c) = passes room r b c
+moves room r (pass-idle a b) = passes-idle room r b
+moves {p = p} room r (strike-block a b) = unseen room r refl (simp relays (alike (p .word)))
+moves {p = p} room r (strike-close a b) = unseen room r refl (simp relays (alike (p .word)))
+moves {p = p} room r (strike-idle a b) = unseen room r refl (alike (p .word))
+moves room r (announce a b c) = sends room r b
+moves room r (release k a b c d e) = sends-back room r k b c
+moves room r (garage k a b c) = sends-garage room r k b c
+moves room r (announcement-arrives k a) = announcement-in room r k a
+moves room r (release-arrives k a b) = release-in room r a b
+moves room r (announcement-lost k a) = announcement-gone room r a
+moves room r (release-lost k a b) = release-gone room r a b
+moves room r (restore k a b c d) = restores room r
 
 -- ---- a fresh line
 -- no count has grown, and An, KPg and the W bits are down

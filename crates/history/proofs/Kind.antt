@@ -1,4 +1,4 @@
--- No event alters a post's kind: after any run it is the table's.
+-- Nothing that befalls a line alters a post's kind: in every state reached, and so after any run, it is the table's.
 -- It holds because no case of an event writes a kind.
 use Prim.Native.Nat.{ℕ, zero, suc}
 use mathlib.Core.Path.{_≡_, refl, _∙_}
@@ -14,10 +14,11 @@ use Rattle.relay.proofs.Accepted.{event-cases}
 use Rattle.relay.proofs.Cases.{Taken, reverse, normalise, pass, pass-idle, strike-block, strike-close, strike-idle, announce, release, garage, announcement-arrives, release-arrives, announcement-lost, release-lost, restore, accepted-case}
 use Rattle.relay.proofs.Frame.{taken-replaces}
 use Rattle.relay.proofs.Truth.{equal-or-not}
-use Rattle.history.specs.Run.{State, step, run, begun}
+use Rattle.history.specs.Run.{State, step, run, begun, Befalls, given-event, refused-outside, moved-elsewhere, Reached, at-first}
+use Rattle.history.proofs.Reached.{always, run-reached}
 
 -- the post named and its neighbour keep their kinds
-taken-kinds : {n : ℕ} {p o : Post} {b : Pair} → Taken p o n b → (b .here .kind ≡ p .kind) × (b .other .kind ≡ o .kind)
+taken-kinds : {i j n : ℕ} {p o : Post} {b : Pair} → Taken i j p o n b → (b .here .kind ≡ p .kind) × (b .other .kind ≡ o .kind)
 taken-kinds (reverse a b) = (refl, refl)
 taken-kinds (normalise a) = (refl, refl)
 taken-kinds (pass a b c) = (refl, refl)
@@ -26,13 +27,13 @@ taken-kinds (strike-block a b) = (refl, refl)
 taken-kinds (strike-close a b) = (refl, refl)
 taken-kinds (strike-idle a b) = (refl, refl)
 taken-kinds (announce a b c) = (refl, refl)
-taken-kinds (release a b c d e) = (refl, refl)
-taken-kinds (garage a b c) = (refl, refl)
-taken-kinds (announcement-arrives a) = (refl, refl)
-taken-kinds (release-arrives a b) = (refl, refl)
-taken-kinds (announcement-lost a) = (refl, refl)
-taken-kinds (release-lost a b) = (refl, refl)
-taken-kinds (restore a b c d) = (refl, refl)
+taken-kinds (release m a b c d e) = (refl, refl)
+taken-kinds (garage m a b c) = (refl, refl)
+taken-kinds (announcement-arrives m a) = (refl, refl)
+taken-kinds (release-arrives m a b) = (refl, refl)
+taken-kinds (announcement-lost m a) = (refl, refl)
+taken-kinds (release-lost m a b) = (refl, refl)
+taken-kinds (restore m a b c d) = (refl, refl)
 
 -- and so does every post
 pub step-kinds : (e : Event) (w : State) (i : ℕ) → at (step e w .line) i .kind ≡ at (w .line) i .kind
@@ -47,10 +48,11 @@ step-kinds e w i =
     (λ f. equal-or-not i (neighbour (e .number) (e .post)) (λ g. rw (g, R .second) (k .1)) (λ g. rw (R .rest i f g))))
     (λ c. refl)
 
-run-kinds : (es : List Event) (w : State) (i : ℕ) → at (run es w .line) i .kind ≡ at (w .line) i .kind
-unfolding run
-run-kinds [] w i = refl
-run-kinds (e ∷ es) w i = run-kinds es (step e w) i ∙ step-kinds e w i
+-- whatever befalls the line
+pub befalls-kinds : {w v : State} → Befalls w v → (i : ℕ) → at (v .line) i .kind ≡ at (w .line) i .kind
+befalls-kinds {w} (given-event e) i = step-kinds e w i
+befalls-kinds (refused-outside e n f) i = refl
+befalls-kinds (moved-elsewhere s f g) i = refl
 
 fresh-kinds : (ks : List ℕ) (i : ℕ) → at (freshLine ks) i .kind ≡ getD ks i 0
 unfolding freshLine freshPost
@@ -63,7 +65,13 @@ pub begun-kinds : (l : List Post) (ks : List ℕ) (t : ℕ) → startable l ks �
 unfolding begun startOf
 begun-kinds l ks t f i = rw f (fresh-kinds ks i)
 
--- and has them after any run
+-- and has them in every state reached
+pub reached-kinds : (l : List Post) (ks : List ℕ) (t : ℕ) → startable l ks ≡ true → {w : State} → Reached (begun l ks t) w → (i : ℕ)
+    → at (w .line) i .kind ≡ getD ks i 0
+reached-kinds l ks t f r i =
+    always (λ w. at (w .line) i .kind ≡ getD ks i 0) (λ w v x z. befalls-kinds x i ∙ z) r (begun-kinds l ks t f i)
+
+-- so after any run
 pub kinds-stay : (l : List Post) (ks : List ℕ) (t : ℕ) → startable l ks ≡ true → (es : List Event) (i : ℕ)
     → at (run es (begun l ks t) .line) i .kind ≡ getD ks i 0
-kinds-stay l ks t f es i = run-kinds es (begun l ks t) i ∙ begun-kinds l ks t f i
+kinds-stay l ks t f es = reached-kinds l ks t f (run-reached es (begun l ks t) at-first)

@@ -1,36 +1,38 @@
 -- Demand 3 for the events of a sheet: what working answers and what the listing says of a section is what the worked sheet's own history says.
--- Working's run and the run of the history are the same, event by event; so each theorem of the history is one of the sheet.
+-- The states of working are reached from a line just started, event by event; so each theorem of the history is one of the sheet.
 use Prim.Native.Nat.{ℕ, suc, _+_, _<_}
-use mathlib.Core.Path.{_≡_, refl, sym, ap, subst, _∙_}
+use mathlib.Core.Path.{_≡_, refl, ap, subst}
 use mathlib.Core.Bool.{true}
 use mathlib.Core.List.{List, [], _∷_, _++_}
 use borrow.Author.Tests.{eq-eqb}
 use lib.ListN.{length, getD}
-use Rattle.relay.specs.Examples.{Event, blanks}
+use Rattle.relay.specs.Examples.{blanks}
 use Rattle.relay.specs.Kinds.{tableOk, blocksAtPedal}
 use Rattle.relay.specs.Line.{After, startable, startOf}
 use Rattle.relay.specs.Posts.{at}
 use Rattle.relay.specs.declared.Post.{Post}
 use Rattle.history.specs.History.{Entry, did, isOpen}
-use Rattle.history.specs.Run.{State, step}
+use Rattle.history.specs.Run.{State, step, given-event, Reached, at-first, further}
 use Rattle.history.specs.Run as hist
 use Rattle.history.specs.Demand.{Counted, Ends, Conserved, HeldByOne, Locked, Freed}
 use Rattle.history.proofs.Ledger as ledger
-use Rattle.history.proofs.Reopened.{not-reopened}
+use Rattle.history.proofs.Reopened.{reached-not-reopened}
 use Rattle.sheet.specs.Reading.{verdictOf, decode}
 use Rattle.working.specs.Run.{begun, next, run, answered}
 use Rattle.working.specs.Working.{worked, sectionNumbers}
 use Rattle.working.proofs.Works.{said-table}
-use Rattle.lesson.specs.Lesson.{asked, allAsked, onto, shown, sectionSays}
+use Rattle.lesson.specs.Lesson.{asked, onto, shown, sectionSays}
 
--- ---- the two runs
+-- ---- working, as a line that events befall
 abbrev as-state : List Entry → After → State
 as-state b a = record { history = b; line = a .line; head = a .told .head }
 
-same-run : (b : List Entry) (a : After) (es : List (List ℕ)) → hist.run (allAsked es) (as-state b a) ≡ as-state (onto b (answered a es)) (run a es)
-unfolding hist.run step allAsked onto run answered
-same-run b a [] = refl
-same-run b a (e ∷ es) = same-run _ (next a e) es
+-- each event of the sheet befalls the line, and its answer stands in the history
+works-on : {z : State} (b : List Entry) (a : After) (es : List (List ℕ)) → Reached z (as-state b a)
+    → Reached z (as-state (onto b (answered a es)) (run a es))
+unfolding step onto run answered
+works-on b a [] r = r
+works-on b a (e ∷ es) r = works-on _ (next a e) es (further r (given-event (asked e)))
 
 blanks-long : (ks : List ℕ) → length (blanks ks) ≡ length ks
 blanks-long [] = refl
@@ -53,44 +55,35 @@ module _ (ks : List ℕ) (t : ℕ) (right : tableOk ks ≡ true) where
     abbrev post : ℕ → Post
     post i = at (run (begun ks t) es .line) i
 
-    same : hist.run (allAsked es) (hist.begun (blanks ks) ks t) ≡ as-state told (run (begun ks t) es)
-    same = ap (λ (w : State). hist.run (allAsked es) w) same-start ∙ same-run [] (begun ks t) es
+    -- the state that working leaves is reached
+    reached : Reached (hist.begun (blanks ks) ks t) (as-state told (run (begun ks t) es))
+    reached = works-on [] (begun ks t) es (subst (λ (w : State). Reached (hist.begun (blanks ks) ks t) w) same-start at-first)
 
     -- the nine counts are those of the sheet's own events
     pub counted : (s : ℕ) → s + 1 < length ks → Counted s told (post s) (post (s + 1))
-    counted s fits =
-        subst (λ (w : State). Counted s (w .history) (at (w .line) s) (at (w .line) (s + 1))) same
-        (ledger.counted (blanks ks) ks t starts (allAsked es) s fits)
+    counted = ledger.reached-counted (blanks ks) ks t starts reached
 
     pub ends : (i : ℕ) → i + 1 ≡ length ks → Ends (post 0) (post i)
-    ends i last =
-        subst (λ (w : State). Ends (at (w .line) 0) (at (w .line) i)) same
-        (ledger.ends (blanks ks) ks t starts (allAsked es) i last)
+    ends = ledger.reached-ends (blanks ks) ks t starts reached
 
     -- what was sent is received, lost or under way; what was passed is released or waiting
     pub conserved : (s : ℕ) → s + 1 < length ks → Conserved s told (post s) (post (s + 1))
-    conserved s fits =
-        subst (λ (w : State). Conserved s (w .history) (at (w .line) s) (at (w .line) (s + 1))) same
-        (ledger.conserved (blanks ks) ks t starts (allAsked es) s fits)
+    conserved = ledger.reached-conserved (blanks ks) ks t starts reached
 
     -- an occupied section is held by exactly one thing, a free one by none
     pub held-by-one : (s : ℕ) → s + 1 < length ks → HeldByOne s told (post s) (post (s + 1))
-    held-by-one s fits =
-        subst (λ (w : State). HeldByOne s (w .history) (at (w .line) s) (at (w .line) (s + 1))) same
-        (ledger.held-by-one (blanks ks) ks t starts (allAsked es) s fits)
+    held-by-one = ledger.reached-held-by-one (blanks ks) ks t starts reached
 
     -- while it is held its semaphore is closed and its lever locked
     pub locked : (s : ℕ) → s + 1 < length ks → Locked (post s)
-    locked s fits =
-        subst (λ (w : State). Locked (at (w .line) s)) same (ledger.locked (blanks ks) ks t starts (allAsked es) s fits)
+    locked = ledger.reached-locked (blanks ks) ks t starts reached
 
     -- a semaphore passed open does not open again before it is freed
     pub reopened : (i : ℕ) → blocksAtPedal (getD ks i 0) ≡ true
         → (later : List Entry) (y : Entry) (m : List Entry) (x : Entry) (b : List Entry) → told ≡ later ++ (y ∷ (m ++ (x ∷ b)))
         → did 1 i y ≡ true → did 4 i x ≡ true → isOpen i b ≡ true
         → Freed i (m ++ (x ∷ b)) (x ∷ b)
-    reopened i k later y m x b e =
-        not-reopened (blanks ks) ks t starts (allAsked es) i k later y m x b (ap (λ (w : State). w .history) same ∙ e)
+    reopened = reached-not-reopened (blanks ks) ks t starts reached
 
     -- the listing's line of a section
     pub section-says : (s : ℕ) → s + 1 < length ks → sectionNumbers s (post s) (post (s + 1)) ≡ sectionSays s told (post s)

@@ -1,5 +1,5 @@
 -- The events by cases: for an event that is taken, which of its outcomes it has, what is known there, and the two records that it makes.
--- A theorem over events goes by these fifteen cases and unfolds no rule. Each holds because no refusal of the event's own list is given.
+-- A theorem over events goes by these fifteen cases, unfolds no rule and asks for no number: a case says itself where the neighbour lies that it alters. Each holds because no refusal of the event's own list is given.
 use Prim.Native.Nat.{ℕ, _+_, _≤_}
 use mathlib.Core.Path.{_≡_, refl, sym, _∙_}
 use mathlib.Core.Logic.{_↔_}
@@ -18,6 +18,7 @@ use Rattle.relay.specs.declared.Head.{Head}
 use Rattle.relay.specs.declared.Pair.{Pair}
 use Rattle.relay.specs.declared.Post.{Post}
 use Rattle.relay.proofs.Accepted.{Accepted, reverse-iff, normal-iff, announce-iff, release-iff, garage-iff, under-way-iff, restore-iff}
+use Rattle.relay.proofs.Frame.{neighbour-section, neighbour-post}
 use Rattle.relay.proofs.Truth.{facts, unless-facts, or-facts, from, by}
 
 -- 6 and 7 at the post named: 'An and KPg drop, e grows by 1', with c afterwards
@@ -29,76 +30,86 @@ sentBack c p =
 abbrev pub underWay : Post → Post
 underWay o = wordTo (raise W241 (o .word)) o
 
--- ---- the cases: post p is named, o is its neighbour; the event's number, and the two as it leaves them
-pub data Taken (p o : Post) : ℕ → Pair → Type 0 where
+-- ---- the cases: p, post i, is named, and o, post j, is its neighbour; the event's number, and the two as it leaves them
+-- A case that alters its neighbour, or asks for what stands there, says where it lies
+pub data Taken (i j : ℕ) (p o : Post) : ℕ → Pair → Type 0 where
   -- 1. Reverse the lever: 'signal opens'
   reverse : up lever (p .word) ≡ false → ((p .kind ≡ terminus → ⊥) → up L (p .word) ≡ true)
-      → Taken p o 1 (pair (wordTo (raise signal (raise lever (p .word))) p) o)
+      → Taken i j p o 1 (pair (wordTo (raise signal (raise lever (p .word))) p) o)
   -- 2. Lever to normal: 'signal closes'
-  normalise : up lever (p .word) ≡ true → Taken p o 2 (pair (wordTo (lower signal (lower lever (p .word))) p) o)
+  normalise : up lever (p .word) ≡ true → Taken i j p o 2 (pair (wordTo (lower signal (lower lever (p .word))) p) o)
   -- 3. Passage pedal: 'if An is up and KPg down, KPg rises and q grows by 1'
   pass : (p .kind ≡ origin → ⊥) → up An (p .word) ≡ true → up KPg (p .word) ≡ false
-      → Taken p o 3 (pair (more-q (wordTo (raise KPg (p .word)) p)) o)
+      → Taken i j p o 3 (pair (more-q (wordTo (raise KPg (p .word)) p)) o)
   -- 'Otherwise taken with no effect.'
-  pass-idle : (p .kind ≡ origin → ⊥) → (up An (p .word) ≡ true → up KPg (p .word) ≡ true) → Taken p o 3 (pair p o)
+  pass-idle : (p .kind ≡ origin → ⊥) → (up An (p .word) ≡ true → up KPg (p .word) ≡ true) → Taken i j p o 3 (pair p o)
   -- 4. Signal pedal: 'if the lever is reversed, the signal closes, and at kinds 0 and 2 L drops'
   strike-block : blocksAtPedal (p .kind) ≡ true → up lever (p .word) ≡ true
-      → Taken p o 4 (pair (wordTo (lower L (lower signal (p .word))) p) o)
+      → Taken i j p o 4 (pair (wordTo (lower L (lower signal (p .word))) p) o)
   -- the same at the terminus, where L does not drop
-  strike-close : p .kind ≡ terminus → up lever (p .word) ≡ true → Taken p o 4 (pair (wordTo (lower signal (p .word)) p) o)
+  strike-close : p .kind ≡ terminus → up lever (p .word) ≡ true → Taken i j p o 4 (pair (wordTo (lower signal (p .word)) p) o)
   -- 'With a normal lever, taken with no effect.'
-  strike-idle : hasSignalPedal (p .kind) ≡ true → up lever (p .word) ≡ false → Taken p o 4 (pair p o)
+  strike-idle : hasSignalPedal (p .kind) ≡ true → up lever (p .word) ≡ false → Taken i j p o 4 (pair p o)
   -- 5. Announce: 'RL and L drop, W314 rises, a grows by 1.'
   announce : (p .kind ≡ terminus → ⊥) → up RL (p .word) ≡ true → up lever (p .word) ≡ false
-      → Taken p o 5 (pair (more-a (wordTo (raise W314 (lower L (lower RL (p .word)))) p)) o)
+      → Taken i j p o 5 (pair (more-a (wordTo (raise W314 (lower L (lower RL (p .word)))) p)) o)
   -- 6. Release: 'An and KPg drop, W241 of the section upstream rises, e grows by 1.'
-  release : (p .kind ≡ origin → ⊥) → up An (p .word) ≡ true → up KPg (p .word) ≡ true
+  release : i ≡ j + 1 → (p .kind ≡ origin → ⊥) → up An (p .word) ≡ true → up KPg (p .word) ≡ true
       → (p .kind ≡ terminus → up lever (p .word) ≡ false)
       → ((p .kind ≡ terminus → ⊥) → up RL (p .word) ≡ false)
-      → Taken p o 6 (pair (sentBack (p .c) p) (underWay o))
+      → Taken i j p o 6 (pair (sentBack (p .c) p) (underWay o))
   -- 7. Garage release: 'As 6, and c grows by 1.'
-  garage : hasGarageRelease (p .kind) ≡ true → up An (p .word) ≡ true → up KPg (p .word) ≡ true
-      → Taken p o 7 (pair (sentBack (grown (p .c)) p) (underWay o))
+  garage : i ≡ j + 1 → hasGarageRelease (p .kind) ≡ true → up An (p .word) ≡ true → up KPg (p .word) ≡ true
+      → Taken i j p o 7 (pair (sentBack (grown (p .c)) p) (underWay o))
   -- 8. Arrival: 'W314: it drops, An downstream rises, r grows by 1.'
-  announcement-arrives : up W314 (p .word) ≡ true
-      → Taken p o 8 (pair (wordTo (lower W314 (p .word)) p) (more-r (wordTo (raise An (o .word)) o)))
+  announcement-arrives : j ≡ i + 1 → up W314 (p .word) ≡ true
+      → Taken i j p o 8 (pair (wordTo (lower W314 (p .word)) p) (more-r (wordTo (raise An (o .word)) o)))
   -- 'W241: it drops, L and RL rise, v grows by 1.'
-  release-arrives : up W314 (p .word) ≡ false → up W241 (p .word) ≡ true
-      → Taken p o 8 (pair (more-v (wordTo (raise RL (raise L (lower W241 (p .word)))) p)) o)
+  release-arrives : j ≡ i + 1 → up W314 (p .word) ≡ false → up W241 (p .word) ≡ true
+      → Taken i j p o 8 (pair (more-v (wordTo (raise RL (raise L (lower W241 (p .word)))) p)) o)
   -- 9. Loss: 'The signal under way drops; x or y grows by 1.'
-  announcement-lost : up W314 (p .word) ≡ true → Taken p o 9 (pair (more-x (wordTo (lower W314 (p .word)) p)) o)
-  release-lost : up W314 (p .word) ≡ false → up W241 (p .word) ≡ true
-      → Taken p o 9 (pair (more-y (wordTo (lower W241 (p .word)) p)) o)
+  announcement-lost : j ≡ i + 1 → up W314 (p .word) ≡ true → Taken i j p o 9 (pair (more-x (wordTo (lower W314 (p .word)) p)) o)
+  release-lost : j ≡ i + 1 → up W314 (p .word) ≡ false → up W241 (p .word) ≡ true
+      → Taken i j p o 9 (pair (more-y (wordTo (lower W241 (p .word)) p)) o)
   -- 10. Restoration: 'L and RL rise, g grows by 1.'
-  restore : up RL (p .word) ≡ false → up W314 (p .word) ≡ false → up W241 (p .word) ≡ false → up An (o .word) ≡ false
-      → Taken p o 10 (pair (more-g (wordTo (raise RL (raise L (p .word))) p)) o)
+  restore : j ≡ i + 1 → up RL (p .word) ≡ false → up W314 (p .word) ≡ false → up W241 (p .word) ≡ false → up An (o .word) ≡ false
+      → Taken i j p o 10 (pair (more-g (wordTo (raise RL (raise L (p .word))) p)) o)
 
 -- ---- each event that is taken is in one of its cases
-module _ (p o : Post) where
-  -- neither 6 nor one of the event's own list is given
-  own-iff : (n : ℕ)
-      → (refusal n (p .kind) (p .word) (o .word) ≡ 0) ↔ ((lacks n (p .kind) ≡ false) × (ownRefusal n (p .kind) (p .word) (o .word) ≡ 0))
-  unfolding refusal
-  own-iff n = unless-facts (lacks n (p .kind)) 6 (ownRefusal n (p .kind) (p .word) (o .word)) refl
+-- a garage release is at kind 2 or 3
+pub garage-kind : (k : ℕ) → hasGarageRelease k ≡ true → (2 ≤ k) × (k ≤ 3)
+unfolding hasGarageRelease
+garage-kind k = or-facts (eqb k 2) (eqb k 3) (λ e. omega (arith, eqb-true)) (λ e. omega (arith, eqb-true))
 
-  -- event n, taken, is in one of its cases
+-- neither 6 nor one of the event's own list is given
+own-iff : (p o : Post) (n : ℕ)
+    → (refusal n (p .kind) (p .word) (o .word) ≡ 0) ↔ ((lacks n (p .kind) ≡ false) × (ownRefusal n (p .kind) (p .word) (o .word) ≡ 0))
+unfolding refusal
+own-iff p o n = unless-facts (lacks n (p .kind)) 6 (ownRefusal n (p .kind) (p .word) (o .word)) refl
+
+-- event by event, p being post i: here alone the event's number tells where its neighbour lies
+module _ (i : ℕ) (p o : Post) (first : i ≡ 0 → p .kind ≡ origin) where
+  -- event n there, in a case that leaves the two as b
+  abbrev Case : ℕ → Pair → Type 0
+  Case n b = Taken i (neighbour n i) p o n b
+
+  -- event n, not refused, is in one of its cases
   abbrev Is : ℕ → Type 0
-  Is n = refusal n (p .kind) (p .word) (o .word) ≡ 0 → Taken p o n (changed n p o)
+  Is n = (lacks n (p .kind) ≡ false) × (ownRefusal n (p .kind) (p .word) (o .word) ≡ 0) → Case n (changed n p o)
 
-  -- event by event
   is-reverse : Is 1
   unfolding changed ownRefusal reversed
-  is-reverse e = let f = reverse-iff (p .kind) (p .word) .0 (own-iff 1 .0 e .1) in reverse (f .0) (f .1)
+  is-reverse e = let f = reverse-iff (p .kind) (p .word) .0 (e .1) in reverse (f .0) (f .1)
 
   is-normal : Is 2
   unfolding changed ownRefusal normal
-  is-normal e = normalise (normal-iff (p .word) .0 (own-iff 2 .0 e .1))
+  is-normal e = normalise (normal-iff (p .word) .0 (e .1))
 
   is-pass : Is 3
   unfolding changed lacks passed hasPassagePedal
   is-pass e =
-      let f = simp facts at (own-iff 3 .0 e .0) in
-      by (λ q. Taken p o 3 (pair q o)) (up An (p .word) && not (up KPg (p .word)))
+      let f = simp facts at (e .0) in
+      by (λ q. Case 3 (pair q o)) (up An (p .word) && not (up KPg (p .word)))
       (λ b. let g = simp facts at b in pass f (g .0) (g .1))
       (λ b. pass-idle f (simp facts at b))
 
@@ -114,10 +125,10 @@ module _ (p o : Post) where
   is-strike : Is 4
   unfolding changed lacks struck
   is-strike e =
-      let f = simp facts at (own-iff 4 .0 e .0) in
-      by (λ q. Taken p o 4 (pair q o)) (up lever (p .word))
+      let f = simp facts at (e .0) in
+      by (λ q. Case 4 (pair q o)) (up lever (p .word))
       (λ b.
-      by (λ q. Taken p o 4 (pair q o)) (blocksAtPedal (p .kind))
+      by (λ q. Case 4 (pair q o)) (blocksAtPedal (p .kind))
       (λ c. strike-block c b)
       (λ c. strike-close (closes f c) b))
       (λ b. strike-idle f b)
@@ -125,42 +136,44 @@ module _ (p o : Post) where
   is-announce : Is 5
   unfolding changed lacks ownRefusal announced
   is-announce e =
-      let f = announce-iff (p .word) .0 (own-iff 5 .0 e .1) in
-      announce (simp facts at (own-iff 5 .0 e .0)) (f .0) (f .1)
+      let f = announce-iff (p .word) .0 (e .1) in
+      announce (simp facts at (e .0)) (f .0) (f .1)
 
   is-release : Is 6
   unfolding changed lacks ownRefusal released releaseUnderWay
   is-release e =
-      let f = release-iff (p .kind) (p .word) .0 (own-iff 6 .0 e .1) in
-      release (simp facts at (own-iff 6 .0 e .0)) (f .0) (f .1 .0) (f .1 .1 .0) (f .1 .1 .1)
+      let f = release-iff (p .kind) (p .word) .0 (e .1) in
+      let k = simp facts at (e .0) in
+      release (neighbour-post 6 i (omega arith) (λ z. k (first z))) k (f .0) (f .1 .0) (f .1 .1 .0) (f .1 .1 .1)
 
   is-garage : Is 7
   unfolding changed lacks ownRefusal garaged released releaseUnderWay
   is-garage e =
-      let f = garage-iff (p .word) .0 (own-iff 7 .0 e .1) in
-      garage (simp facts at (own-iff 7 .0 e .0)) (f .0) (f .1)
+      let f = garage-iff (p .word) .0 (e .1) in
+      let k = simp facts at (e .0) in
+      garage (neighbour-post 7 i (omega arith) (λ z. omega (arith, first z, garage-kind (p .kind) k))) k (f .0) (f .1)
 
   is-arrival : Is 8
   unfolding changed ownRefusal arrived
   is-arrival e =
-      by (λ b. Taken p o 8 b) (up W314 (p .word)) announcement-arrives
-      (λ b. release-arrives b (under-way-iff (p .word) .0 (own-iff 8 .0 e .1) b))
+      by (λ b. Case 8 b) (up W314 (p .word)) (announcement-arrives (neighbour-section 8 i (omega arith)))
+      (λ b. release-arrives (neighbour-section 8 i (omega arith)) b (under-way-iff (p .word) .0 (e .1) b))
 
   is-loss : Is 9
   unfolding changed ownRefusal lost
   is-loss e =
-      by (λ q. Taken p o 9 (pair q o)) (up W314 (p .word)) announcement-lost
-      (λ b. release-lost b (under-way-iff (p .word) .0 (own-iff 9 .0 e .1) b))
+      by (λ q. Case 9 (pair q o)) (up W314 (p .word)) (announcement-lost (neighbour-section 9 i (omega arith)))
+      (λ b. release-lost (neighbour-section 9 i (omega arith)) b (under-way-iff (p .word) .0 (e .1) b))
 
   is-restore : Is 10
   unfolding changed ownRefusal restored
   is-restore e =
-      let f = restore-iff (p .word) (o .word) .0 (own-iff 10 .0 e .1) in
-      restore (f .0) (f .1 .0 .0) (f .1 .0 .1) (f .1 .1)
+      let f = restore-iff (p .word) (o .word) .0 (e .1) in
+      restore (neighbour-section 10 i (omega arith)) (f .0) (f .1 .0 .0) (f .1 .0 .1) (f .1 .1)
 
   -- every event number
-  pub taken-cases : (n : ℕ) → 1 ≤ n → n ≤ 10 → Is n
-  taken-cases =
+  pub taken-cases : (n : ℕ) → 1 ≤ n → n ≤ 10 → refusal n (p .kind) (p .word) (o .word) ≡ 0 → Case n (changed n p o)
+  taken-cases n h k e =
       from Is 10 1 is-reverse
       (from Is 10 2 is-normal
       (from Is 10 3 is-pass
@@ -169,11 +182,13 @@ module _ (p o : Post) where
       (from Is 10 6 is-release
       (from Is 10 7 is-garage
       (from Is 10 8 is-arrival (from Is 10 9 is-loss (from Is 10 10 is-restore (λ n h k. absurd (omega arith)))))))))))
+      n h k (own-iff p o n .0 e)
 
 -- an event that is taken on a line is in one of its cases
 pub accepted-case : (l : List Post) (s : Head) (n i t : ℕ) → Accepted l s n i t
-    → Taken (at l i) (at l (neighbour n i)) n (changed n (at l i) (at l (neighbour n i)))
-accepted-case l s n i t r = taken-cases (at l i) (at l (neighbour n i)) n (r .least) (r .most) (r .own)
+    → Taken i (neighbour n i) (at l i) (at l (neighbour n i)) n (changed n (at l i) (at l (neighbour n i)))
+accepted-case l s n i t r =
+    taken-cases i (at l i) (at l (neighbour n i)) (r .valid .each i (r .place) .kind .first) n (r .least) (r .most) (r .own)
 
 -- ---- an event in one of its cases is taken, and makes what the case says
 -- what an event makes where nothing is refused
@@ -186,7 +201,7 @@ unfolding lacks hasSignalPedal blocksAtPedal
 pedal-there k = or-facts (eqb k 0) (eqb k 2) (λ e. rw (eqb-true k 0 e)) (λ e. rw (eqb-true k 2 e))
 
 -- each case
-pub case-taken : {p o : Post} {n : ℕ} {b : Pair} → Taken p o n b → Made p o n b
+pub case-taken : {p o : Post} {i j n : ℕ} {b : Pair} → Taken i j p o n b → Made p o n b
 unfolding changed lacks ownRefusal reversed normal passed struck announced released garaged releaseUnderWay arrived lost restored hasPassagePedal hasSignalPedal blocksAtPedal
 case-taken {p} {o} (reverse a b) = (own-iff p o 1 .1 (refl, reverse-iff (p .kind) (p .word) .1 (a, b)), refl)
 case-taken {p} {o} (normalise a) = (own-iff p o 2 .1 (refl, normal-iff (p .word) .1 a), refl)
@@ -198,13 +213,13 @@ case-taken {p} {o} (strike-block a b) = (own-iff p o 4 .1 (pedal-there (p .kind)
 case-taken {p} {o} (strike-close a b) = (own-iff p o 4 .1 (rw a, refl), rw (b, a))
 case-taken {p} {o} (strike-idle a b) = (own-iff p o 4 .1 (simp facts a, refl), rw b)
 case-taken {p} {o} (announce a b c) = (own-iff p o 5 .1 (simp facts a, announce-iff (p .word) .1 (b, c)), refl)
-case-taken {p} {o} (release a b c d e) =
+case-taken {p} {o} (release k a b c d e) =
     (own-iff p o 6 .1 (simp facts a, release-iff (p .kind) (p .word) .1 (b, (c, (d, e)))), refl)
-case-taken {p} {o} (garage a b c) = (own-iff p o 7 .1 (simp facts a, garage-iff (p .word) .1 (b, c)), refl)
-case-taken {p} {o} (announcement-arrives a) =
+case-taken {p} {o} (garage k a b c) = (own-iff p o 7 .1 (simp facts a, garage-iff (p .word) .1 (b, c)), refl)
+case-taken {p} {o} (announcement-arrives k a) =
     (own-iff p o 8 .1 (refl, under-way-iff (p .word) .1 (λ z. absurd (false≢true (sym z ∙ a)))), rw a)
-case-taken {p} {o} (release-arrives a b) = (own-iff p o 8 .1 (refl, under-way-iff (p .word) .1 (λ z. b)), rw a)
-case-taken {p} {o} (announcement-lost a) =
+case-taken {p} {o} (release-arrives k a b) = (own-iff p o 8 .1 (refl, under-way-iff (p .word) .1 (λ z. b)), rw a)
+case-taken {p} {o} (announcement-lost k a) =
     (own-iff p o 9 .1 (refl, under-way-iff (p .word) .1 (λ z. absurd (false≢true (sym z ∙ a)))), rw a)
-case-taken {p} {o} (release-lost a b) = (own-iff p o 9 .1 (refl, under-way-iff (p .word) .1 (λ z. b)), rw a)
-case-taken {p} {o} (restore a b c d) = (own-iff p o 10 .1 (refl, restore-iff (p .word) (o .word) .1 (a, ((b, c), d))), refl)
+case-taken {p} {o} (release-lost k a b) = (own-iff p o 9 .1 (refl, under-way-iff (p .word) .1 (λ z. b)), rw a)
+case-taken {p} {o} (restore k a b c d) = (own-iff p o 10 .1 (refl, restore-iff (p .word) (o .word) .1 (a, ((b, c), d))), refl)

@@ -4,19 +4,17 @@ use Prim.Native.Nat.{ℕ, _+_, _≤_, _<_}
 use mathlib.Core.Path.{_≡_, refl}
 use mathlib.Core.Bool.{Bool, true, false}
 use native.Mathlib.Omega.{arith}
-use borrow.Author.Tests.{eqb-true}
-use lib.Dec.{eqb}
 use Rattle.relay.specs.Choice.{one, grown}
-use Rattle.relay.specs.Kinds.{origin, terminus, intermediate, hasGarageRelease}
-use Rattle.relay.specs.Posts.{post, wordTo}
-use Rattle.relay.specs.Relays.{An, KPg, RL, W314, W241, up}
+use Rattle.relay.specs.Kinds.{origin, terminus, intermediate}
+use Rattle.relay.specs.Posts.{post, wordTo, more-a, more-x, more-y, more-v, more-g, more-r, more-q}
+use Rattle.relay.specs.Relays.{An, KPg, L, RL, lever, W314, W241, up, raise, lower}
 use Rattle.relay.specs.Valid.{mostEvents}
 use Rattle.relay.specs.declared.Pair.{Pair}
 use Rattle.relay.specs.declared.Post.{Post}
-use Rattle.relay.proofs.Cases.{sentBack, underWay, Taken, reverse, normalise, pass, pass-idle, strike-block, strike-close, strike-idle, announce, release, garage, announcement-arrives, release-arrives, announcement-lost, release-lost, restore}
+use Rattle.relay.proofs.Cases.{sentBack, underWay, garage-kind, Taken, reverse, normalise, pass, pass-idle, strike-block, strike-close, strike-idle, announce, release, garage, announcement-arrives, release-arrives, announcement-lost, release-lost, restore}
 use Rattle.relay.proofs.Facts.{KindOk, WordOk, PostOk, SectionOk, Within}
 use Rattle.relay.proofs.KeptWords.{Keeps, keeps-word, word-reverse, word-normal, word-pass, word-block, word-close, word-announce, word-release, word-release-sent, word-announcement-gone, word-announcement-in, word-release-in, word-release-gone, word-restore}
-use Rattle.relay.proofs.Truth.{facts, or-facts, equal-or-not, split, ones, up-or-down}
+use Rattle.relay.proofs.Truth.{facts, equal-or-not, split, ones, up-or-down}
 use Rattle.relay.proofs.Word.{relays}
 
 -- ---- kinds
@@ -37,11 +35,6 @@ pub not-origin : (n i k : ℕ) → KindOk n i k → (i ≡ 0 → ⊥) → k ≡ 
 not-origin n i k r h e =
     equal-or-not (i + 1) n (λ z. omega (arith, r .last h z)) (λ z. omega (arith, r .middle h z))
 
--- a garage release is at kind 2 or 3
-garage-kind : (k : ℕ) → hasGarageRelease k ≡ true → (2 ≤ k) × (k ≤ 3)
-unfolding hasGarageRelease
-garage-kind k = or-facts (eqb k 2) (eqb k 3) (λ e. omega (arith, eqb-true)) (λ e. omega (arith, eqb-true))
-
 -- ---- what is kept
 -- post i of n is kept, with one more event taken, and so are the sections beside it
 pub record One (n i t : ℕ) (p q : Post) : Type 0 where
@@ -57,17 +50,17 @@ pub record Two (n i j t : ℕ) (u d u′ d′ : Post) : Type 0 where
   pub between : SectionOk u′ d′
   pub below : (y : Post) → SectionOk d y → SectionOk d′ y
 
--- a post that is not altered is kept
-pub later : {n i t : ℕ} {p : Post} → PostOk n i t p → PostOk n i (t + 1) p
-later r = record { kind = r .kind; word = r .word; zeros = r .zeros; counts = omega (arith, r .counts) }
+-- a post that is not altered is kept, however many events are taken meanwhile
+pub later : {n i t u : ℕ} {p : Post} → t ≤ u → PostOk n i t p → PostOk n i u p
+later k r = record { kind = r .kind; word = r .word; zeros = r .zeros; counts = omega (arith, r .counts) }
 
 -- two words that look alike from the sections beside a post
-abbrev Alike : ℕ → ℕ → Type 0
+abbrev pub Alike : ℕ → ℕ → Type 0
 Alike w v =
     (up An w ≡ up An v) × (up KPg w ≡ up KPg v) × (up RL w ≡ up RL v) × (up W314 w ≡ up W314 v) × (up W241 w ≡ up W241 v)
 
 -- a word looks like itself
-alike : (w : ℕ) → Alike w w
+pub alike : (w : ℕ) → Alike w w
 alike w = (refl, refl, refl, refl, refl)
 
 -- ---- one post is altered
@@ -124,7 +117,29 @@ module _ {n i t : ℕ} {p : Post} (r : PostOk n i t p) where
 
   -- a strike with no effect
   idle : One n i t p p
-  idle = record { post = later r; above = λ x s. s; below = λ y s. s }
+  idle = record { post = later (omega arith) r; above = λ x s. s; below = λ y s. s }
+
+  -- 3. a passage is recorded
+  passes : t < mostEvents → (p .kind ≡ origin → ⊥) → up An (p .word) ≡ true → up KPg (p .word) ≡ false
+      → One n i t p (more-q (wordTo (raise KPg (p .word)) p))
+  passes room k a b =
+      record {
+        post =
+            down-to k (r .zeros .terminus-garage) (r .zeros .intermediate-garage) (word word-pass a)
+            (omega (arith, r .counts));
+        above = λ x s. simp relays (omega (arith, ones, r .counts));
+        below = λ y s. simp relays s;
+      }
+
+  -- 5. an announcement is sent
+  announces : t < mostEvents → (p .kind ≡ terminus → ⊥) → up RL (p .word) ≡ true → up lever (p .word) ≡ false
+      → One n i t p (more-a (wordTo (raise W314 (lower L (lower RL (p .word)))) p))
+  announces room k a b =
+      record {
+        post = up-to k (word word-announce (simp facts (k, b))) (omega (arith, r .counts));
+        above = λ x s. simp relays s;
+        below = λ y s. simp relays (omega (arith, ones, r .counts, up-or-down (up RL (p .word))));
+      }
 
 -- ---- two neighbours are altered, u upstream and d downstream
 module _ {n i j t : ℕ} {u d : Post} (room : t < mostEvents) (next : j ≡ i + 1) (fits : j < n) (U : PostOk n i t u) (D : PostOk n j t d) (s : SectionOk u d) where
@@ -147,7 +162,7 @@ module _ {n i j t : ℕ} {u d : Post} (room : t < mostEvents) (next : j ≡ i + 
   upstream k c e b =
       record {
         upper = up-to U u-kind k c;
-        lower = later D;
+        lower = later (omega arith) D;
         above = λ x z. simp (e .0, e .1) z;
         between = b;
         below = λ y z. z;
@@ -166,82 +181,71 @@ module _ {n i j t : ℕ} {u d : Post} (room : t < mostEvents) (next : j ≡ i + 
         below = λ y z. simp relays z;
       }
 
+  -- 8. the announcement under way arrives
+  announcement-in : up W314 (u .word) ≡ true → Two n i j t u d (wordTo (lower W314 (u .word)) u) (more-r (wordTo (raise An (d .word)) d))
+  announcement-in a =
+      record {
+        upper = word-to U (word U word-announcement-gone refl);
+        lower =
+            down-to D d-kind (D .zeros .terminus-garage) (D .zeros .intermediate-garage) (word D word-announcement-in (simp facts d-kind))
+            (omega (arith, D .counts));
+        above = λ x z. simp relays z;
+        between = simp relays (omega (arith, ones, D .counts, up-or-down (up RL (u .word))));
+        below = λ y z. simp relays z;
+      }
+
+  -- 8. the release under way arrives
+  release-in : up W314 (u .word) ≡ false → up W241 (u .word) ≡ true
+      → Two n i j t u d (more-v (wordTo (raise RL (raise L (lower W241 (u .word)))) u)) d
+  release-in a b =
+      upstream (word U word-release-in (simp facts (u-kind, held (omega (arith, ones))))) (omega (arith, U .counts))
+      (simp relays (refl, refl))
+      (simp relays (omega (arith, ones, U .counts, up-or-down (up RL (u .word)))))
+
+  -- 9. the announcement under way is lost
+  announcement-gone : up W314 (u .word) ≡ true → Two n i j t u d (more-x (wordTo (lower W314 (u .word)) u)) d
+  announcement-gone a =
+      upstream (word U word-announcement-gone refl) (omega (arith, U .counts)) (simp relays (refl, refl)) (simp relays (omega (arith, ones, U .counts)))
+
+  -- 9. the release under way is lost
+  release-gone : up W314 (u .word) ≡ false → up W241 (u .word) ≡ true → Two n i j t u d (more-y (wordTo (lower W241 (u .word)) u)) d
+  release-gone a b =
+      upstream (word U word-release-gone refl) (omega (arith, U .counts)) (simp relays (refl, refl)) (simp relays (omega (arith, ones, U .counts)))
+
+  -- 10. the section is restored
+  restores : up RL (u .word) ≡ false → up W314 (u .word) ≡ false → up W241 (u .word) ≡ false → up An (d .word) ≡ false
+      → Two n i j t u d (more-g (wordTo (raise RL (raise L (u .word))) u)) d
+  restores a b c e =
+      upstream (word U word-restore (simp facts (u-kind, a))) (omega (arith, U .counts)) (simp relays (refl, refl))
+      (simp relays (omega (arith, ones, U .counts, up-or-down (up RL (u .word)))))
+
 -- ---- every event that is taken
--- what event m at post i of n keeps: p is the post named, o its neighbour, b the two as the event leaves them
-pub data Kept (n i t : ℕ) (p o : Post) (m : ℕ) (b : Pair) : Type 0 where
+-- what an event at post i of n keeps, its neighbour being post j: p is the post named, o the neighbour, b the two as the event leaves them
+pub data Kept (n i j t : ℕ) (p o : Post) (b : Pair) : Type 0 where
   -- the neighbour is not altered
-  single : b .other ≡ o → One n i t p (b .here) → Kept n i t p o m b
-  -- the neighbour is upstream
-  back : m < 8 → (i ≡ 0 → ⊥)
-      → ((j : ℕ) → i ≡ j + 1 → i < n → PostOk n j t o → SectionOk o p → Two n j i t o p (b .other) (b .here))
-      → Kept n i t p o m b
-  -- the neighbour is downstream
-  onward : 8 ≤ m
-      → ((j : ℕ) → j ≡ i + 1 → j < n → PostOk n j t o → SectionOk p o → Two n i j t p o (b .here) (b .other))
-      → Kept n i t p o m b
+  single : b .other ≡ o → One n i t p (b .here) → Kept n i j t p o b
+  -- the neighbour is the post before
+  back : i ≡ j + 1 → (i < n → PostOk n j t o → SectionOk o p → Two n j i t o p (b .other) (b .here)) → Kept n i j t p o b
+  -- the neighbour is the next post
+  onward : j ≡ i + 1 → (j < n → PostOk n j t o → SectionOk p o → Two n i j t p o (b .here) (b .other)) → Kept n i j t p o b
 
 -- each case of an event keeps what it alters
-pub keeps : {n i t m : ℕ} {p o : Post} {b : Pair} → t < mostEvents → PostOk n i t p → Taken p o m b → Kept n i t p o m b
+pub keeps : {n i j t m : ℕ} {p o : Post} {b : Pair} → t < mostEvents → PostOk n i t p → Taken i j p o m b → Kept n i j t p o b
 keeps {p = p} room r (reverse a b) = single refl (unseen r (word r word-reverse (simp facts b)) (simp relays (alike (p .word))))
 keeps {p = p} room r (normalise a) = single refl (unseen r (word r word-normal refl) (simp relays (alike (p .word))))
-keeps room r (pass a b c) =
-    single refl
-    (record {
-      post =
-          down-to r a (r .zeros .terminus-garage) (r .zeros .intermediate-garage) (word r word-pass b)
-          (omega (arith, r .counts));
-      above = λ x s. simp relays (omega (arith, ones, r .counts));
-      below = λ y s. simp relays s;
-    })
+keeps room r (pass a b c) = single refl (passes r room a b c)
 keeps room r (pass-idle a b) = single refl (idle r)
 keeps {p = p} room r (strike-block a b) = single refl (unseen r (word r word-block a) (simp relays (alike (p .word))))
 keeps {p = p} room r (strike-close a b) = single refl (unseen r (word r word-close (simp facts a)) (simp relays (alike (p .word))))
 keeps room r (strike-idle a b) = single refl (idle r)
-keeps {p = p} room r (announce a b c) =
-    single refl
-    (record {
-      post = up-to r a (word r word-announce (simp facts (a, c))) (omega (arith, r .counts));
-      above = λ x s. simp relays s;
-      below = λ y s. simp relays (omega (arith, ones, r .counts, up-or-down (up RL (p .word))));
-    })
-keeps {p = p} room r (release a b c d e) =
-    back (omega arith) (λ z. a (r .kind .first z))
-    (λ j e f o s. sends-back room e f o r s (p .c) (omega arith) (r .zeros .terminus-garage) (r .zeros .intermediate-garage) b c)
-keeps {p = p} room r (garage a b c) =
-    let k = garage-kind (p .kind) a in
-    back (omega arith) (λ z. omega (arith, r .kind .first z))
-    (λ j e f o s. sends-back room e f o r s (grown (p .c)) (omega arith) (λ z. absurd (omega arith)) (λ z. absurd (omega arith)) b c)
-keeps {p = p} room r (announcement-arrives a) =
-    onward (omega arith)
-    (λ j e f o s.
-    let k = d-kind room e f r o s in
-    record {
-      upper = word-to r (word r word-announcement-gone refl);
-      lower =
-          down-to o k (o .zeros .terminus-garage) (o .zeros .intermediate-garage) (word o word-announcement-in (simp facts k))
-          (omega (arith, o .counts));
-      above = λ x z. simp relays z;
-      between = simp relays (omega (arith, ones, o .counts, up-or-down (up RL (p .word))));
-      below = λ y z. simp relays z;
-    })
-keeps {p = p} room r (release-arrives a b) =
-    onward (omega arith)
-    (λ j e f o s.
-    upstream room e f r o s
-    (word r word-release-in (simp facts (u-kind room e f r o s, held room e f r o s (omega (arith, ones)))))
-    (omega (arith, r .counts)) (simp relays (refl, refl))
-    (simp relays (omega (arith, ones, r .counts, up-or-down (up RL (p .word))))))
-keeps room r (announcement-lost a) =
-    onward (omega arith)
-    (λ j e f o s.
-    upstream room e f r o s (word r word-announcement-gone refl) (omega (arith, r .counts)) (simp relays (refl, refl)) (simp relays (omega (arith, ones, r .counts))))
-keeps room r (release-lost a b) =
-    onward (omega arith)
-    (λ j e f o s.
-    upstream room e f r o s (word r word-release-gone refl) (omega (arith, r .counts)) (simp relays (refl, refl)) (simp relays (omega (arith, ones, r .counts))))
-keeps {p = p} room r (restore a b c d) =
-    onward (omega arith)
-    (λ j e f o s.
-    upstream room e f r o s (word r word-restore (simp facts (u-kind room e f r o s, a))) (omega (arith, r .counts))
-    (simp relays (refl, refl))
-    (simp relays (omega (arith, ones, r .counts, up-or-down (up RL (p .word))))))
+keeps room r (announce a b c) = single refl (announces r room a b c)
+keeps {p = p} room r (release k a b c d e) =
+    back k (λ f o s. sends-back room k f o r s (p .c) (omega arith) (r .zeros .terminus-garage) (r .zeros .intermediate-garage) b c)
+keeps {p = p} room r (garage k a b c) =
+    let g = garage-kind (p .kind) a in
+    back k (λ f o s. sends-back room k f o r s (grown (p .c)) (omega arith) (λ z. absurd (omega arith)) (λ z. absurd (omega arith)) b c)
+keeps room r (announcement-arrives k a) = onward k (λ f o s. announcement-in room k f r o s a)
+keeps room r (release-arrives k a b) = onward k (λ f o s. release-in room k f r o s a b)
+keeps room r (announcement-lost k a) = onward k (λ f o s. announcement-gone room k f r o s a)
+keeps room r (release-lost k a b) = onward k (λ f o s. release-gone room k f r o s a b)
+keeps room r (restore k a b c d) = onward k (λ f o s. restores room k f r o s a b c d)
