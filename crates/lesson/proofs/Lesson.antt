@@ -1,27 +1,45 @@
--- Demand 3 for the events of a sheet: what working answers and what the listing says of a section is what the worked sheet's own history says.
+-- Demand 3 for the events of a sheet: what working answers, the head that it returns and every line of the listing are what the worked sheet's own history says.
 -- The states of working are reached from a line just started, event by event; so each theorem of the history is one of the sheet.
-use Prim.Native.Nat.{ℕ, suc, _+_, _<_}
-use mathlib.Core.Path.{_≡_, refl, ap, subst}
+use Prim.Native.Nat.{ℕ, suc, _+_, _-_, _<_}
+use mathlib.Core.Path.{_≡_, refl, ap, subst, _∙_}
 use mathlib.Core.Bool.{true}
 use mathlib.Core.List.{List, [], _∷_, _++_}
-use borrow.Author.Tests.{eq-eqb}
+use native.Mathlib.Nat.{zero-add}
+use native.Mathlib.Omega.{arith}
+use borrow.Author.Tests.{eq-eqb, eqb-true, eqb-false}
+use lib.Dec.{eqb}
 use lib.ListN.{length, getD}
+use Rattle.relay.specs.Answers.{taken}
 use Rattle.relay.specs.Examples.{blanks}
 use Rattle.relay.specs.Kinds.{tableOk, blocksAtPedal}
-use Rattle.relay.specs.Line.{After, startable, startOf}
+use Rattle.relay.specs.Line.{After, head, startable, startOf}
 use Rattle.relay.specs.Posts.{at}
+use Rattle.relay.specs.declared.Head.{Head}
 use Rattle.relay.specs.declared.Post.{Post}
-use Rattle.history.specs.History.{Entry, did, isOpen}
+use Rattle.relay.proofs.Frame.{refused-alters-nothing, head-moves}
+use Rattle.relay.proofs.Truth.{split}
+use Rattle.history.specs.History.{Entry, entry, did, isOpen, tally}
 use Rattle.history.specs.Run.{State, step, given-event, Reached, at-first, further}
 use Rattle.history.specs.Run as hist
 use Rattle.history.specs.Demand.{Counted, Ends, Conserved, HeldByOne, Locked, Freed}
 use Rattle.history.proofs.Ledger as ledger
 use Rattle.history.proofs.Reopened.{reached-not-reopened}
-use Rattle.sheet.specs.Reading.{verdictOf, decode}
+use Rattle.history.proofs.Runs.{reached-length, begun-length}
+use Rattle.sheet.specs.Entry.{numberOf, postOf, stampOf}
+use Rattle.sheet.specs.Reading.{blocksIn, verdict, verdictOf, decode}
+use Rattle.sheet.specs.declared.Verdict.{Verdict}
 use Rattle.working.specs.Run.{begun, next, run, answered}
-use Rattle.working.specs.Working.{worked, sectionNumbers}
+use Rattle.working.specs.Working.{worked, workVerdict, workOf, sectionNumbers}
+use Rattle.working.proofs.Named.{Unanswered, work-iff}
+use Rattle.working.proofs.Named as named
+use Rattle.working.proofs.Steps.{answered-long}
+use Rattle.working.proofs.Twice.{answered-at}
 use Rattle.working.proofs.Works.{said-table}
-use Rattle.lesson.specs.Lesson.{asked, onto, shown, sectionSays}
+use Rattle.listing.specs.Lines.{sectionLine}
+use Rattle.listing.specs.Listing.{lineAfter, listingOf}
+use Rattle.listing.specs.Texts.{joined}
+use Rattle.listing.proofs.Numbered.{eventText, sectionText, joined-same, listing-lines}
+use Rattle.lesson.specs.Lesson.{asked, onto, shown, sectionSays, takenIn, lastStamp, answerAt, eventSaid, sectionSaid, said}
 
 -- ---- working, as a line that events befall
 abbrev as-state : List Entry → After → State
@@ -59,6 +77,10 @@ module _ (ks : List ℕ) (t : ℕ) (right : tableOk ks ≡ true) where
     reached : Reached (hist.begun (blanks ks) ks t) (as-state told (run (begun ks t) es))
     reached = works-on [] (begun ks t) es (subst (λ (w : State). Reached (hist.begun (blanks ks) ks t) w) same-start at-first)
 
+    -- no post is more or less
+    posts : length (run (begun ks t) es .line) ≡ length ks
+    posts = reached-length reached ∙ begun-length (blanks ks) ks t starts
+
     -- the nine counts are those of the sheet's own events
     pub counted : (s : ℕ) → s + 1 < length ks → Counted s told (post s) (post (s + 1))
     counted = ledger.reached-counted (blanks ks) ks t starts reached
@@ -90,6 +112,32 @@ module _ (ks : List ℕ) (t : ℕ) (right : tableOk ks ≡ true) where
     unfolding sectionNumbers sectionSays
     section-says s fits = let c = counted s fits in rw (c .sent, c .announcements-received, c .announcements-lost, c .passed, c .releases-sent, c .releases-lost, c .releases-received, c .restored)
 
+-- ---- the session's head
+-- what it is after a history that began at the stamp t
+abbrev Counts : ℕ → List Entry → After → Type 0
+Counts t b a = a .told .head ≡ head (takenIn b) (lastStamp t b)
+
+-- one event more
+head-next : (t : ℕ) (b : List Entry) (a : After) (e : List ℕ) → Counts t b a → Counts t (entry (asked e) (next a e .told .answer) ∷ b) (next a e)
+unfolding takenIn lastStamp tally
+head-next t b a e z =
+    split (eqb (next a e .told .answer) taken)
+    (λ y.
+    let more : a .told .head .taken + 1 ≡ 1 + tally (λ x b. eqb (x .answer) taken) b = omega (arith, ap (λ (s : Head). s .taken) z) in
+    rw y (head-moves (a .line) (a .told .head) (numberOf e) (postOf e) (stampOf e) (eqb-true _ _ y) ∙ ap (λ (n : ℕ). head n (stampOf e)) more))
+    (λ y. rw (y, zero-add) (refused-alters-nothing (a .line) (a .told .head) (numberOf e) (postOf e) (stampOf e) (eqb-false _ _ y) .1 ∙ z))
+
+head-on : (t : ℕ) (b : List Entry) (a : After) (es : List (List ℕ)) → Counts t b a → Counts t (onto b (answered a es)) (run a es)
+unfolding onto run answered
+head-on t b a [] z = z
+head-on t b a (e ∷ es) z = head-on t _ (next a e) es (head-next t b a e z)
+
+-- events taken is how many answers are 0, and the last stamp that of the last event taken, or the start stamp
+pub head-says : (ks : List ℕ) (t : ℕ) (es : List (List ℕ))
+    → run (begun ks t) es .told .head ≡ head (takenIn (shown (answered (begun ks t) es))) (lastStamp t (shown (answered (begun ks t) es)))
+unfolding takenIn lastStamp tally
+head-says ks t es = head-on t [] (begun ks t) es refl
+
 -- ---- an accepted sheet: the row that working it leaves, and the answers that it writes
 module _ (s : List ℕ) (z : verdictOf s .number ≡ 0) where
   abbrev lineAt : ℕ → Post
@@ -99,3 +147,25 @@ module _ (s : List ℕ) (z : verdictOf s .number ≡ 0) where
   pub sheet-says : (i : ℕ) → i + 1 < length (decode s .kinds)
       → sectionNumbers i (lineAt i) (lineAt (i + 1)) ≡ sectionSays i (shown (worked (decode s) .events)) (lineAt i)
   sheet-says i fits = section-says (decode s .kinds) (decode s .stamp) (said-table s z) (decode s .events) i fits
+
+  -- the head that working returns
+  pub work-head-says : (m : ℕ) → workVerdict s m .number ≡ 0
+      → workOf s m .head ≡ head (takenIn (shown (worked (decode s) .events))) (lastStamp (decode s .stamp) (shown (worked (decode s) .events)))
+  unfolding workOf
+  work-head-says m w = rw (eq-eqb (workVerdict s m .number) 0 w) (head-says (decode s .kinds) (decode s .stamp) (decode s .events))
+
+  -- the listing, byte for byte, where no event is answered yet: each line of an event has the answer of its run, and each line of a section what
+  -- the worked sheet's own history says
+  pub listing-says : Unanswered s (blocksIn (length s)) → listingOf s ≡ said (decode s)
+  unfolding said answerAt
+  listing-says u =
+      let w = ap (λ (v : Verdict). v .number) (work-iff s (length s) (verdict 0 0) .1 (named.fits z u (omega arith))) in
+      let t = decode s in
+      let b = begun (t .kinds) (t .stamp) in
+      let e : joined (eventText (worked t .events)) (length (worked t .events)) ≡ joined (eventSaid t) (length (t .events)) =
+      rw (answered-long b (t .events))
+      (joined-same (eventText (worked t .events)) (eventSaid t) (length (t .events)) (λ i h. rw (answered-at b (t .events) i h))) in
+      let k : joined (sectionText (lineAfter t)) (length (lineAfter t) - 1) ≡ joined (sectionSaid t) (length (t .kinds) - 1) =
+      rw (posts (t .kinds) (t .stamp) (said-table s z) (t .events))
+      (joined-same (sectionText (lineAfter t)) (sectionSaid t) (length (t .kinds) - 1) (λ i h. ap sectionLine (sheet-says i (omega arith)))) in
+      listing-lines s w ∙ rw (e, k)

@@ -1,7 +1,7 @@
 -- The listing line by line: line i of the events is event i's, at position i + 1, and line i of the sections is section i's.
 -- One event or section more is one line more.
 -- Assumes nothing.
-use Prim.Native.Nat.{ℕ, zero, suc, _+_, _-_, _≤_}
+use Prim.Native.Nat.{ℕ, zero, suc, _+_, _-_, _≤_, _<_}
 use mathlib.Core.Path.{_≡_, refl, sym, ap, _∙_}
 use mathlib.Core.List.{List, [], _∷_, _++_}
 use native.Mathlib.Numerals.{add-one}
@@ -16,6 +16,12 @@ use Rattle.working.specs.Working.{worked}
 use Rattle.listing.specs.Listing.{eventLines, sectionLines, lineAfter, answerTo, listingOf}
 use Rattle.listing.specs.Texts.{joined}
 use Rattle.listing.proofs.Listed.{lineOfEvent, lineOfSection, events-none, events-more, sections-first, sections-more}
+
+-- texts that are the same one by one are the same one after the other
+pub joined-same : (f g : ℕ → List ℕ) (n : ℕ) → ((i : ℕ) → i < n → f i ≡ g i) → joined f n ≡ joined g n
+unfolding joined
+joined-same f g zero e = refl
+joined-same f g (suc n) e = rw (joined-same f g n (λ i h. e i (omega arith)), e n (omega arith))
 
 -- ---- events
 abbrev pub eventText : List (List ℕ) → ℕ → List ℕ
