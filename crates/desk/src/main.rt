@@ -1,10 +1,11 @@
 // Works the sheet on standard input and prints its listing. 01, 'The program and one listing'.
 // Where a read fails it prints nothing, and says so on standard error.
 use libc::STDIN_FILENO;
+use sheet::layout::MOST_BYTES;
 use stream::Reading;
 
 // One byte more than the longest sheet: an input that fills it is longer than any.
-const ROOM: usize = 64 * 512 + 1;
+const ROOM: usize = MOST_BYTES + 1;
 
 // What follows a longest sheet is read in pieces, to two gigabytes of them.
 const PIECE: usize = 65536;

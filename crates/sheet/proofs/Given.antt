@@ -1,23 +1,27 @@
--- The number that writing returns is the one that the paper's table gives, for every sheet and length of output. It holds row by row.
+-- The numbers of writing and of reading into lent room, given exactly when: writing's as the paper's table gives them, row by row; reading's as First's, then 21.
 -- Assumes nothing.
-use Prim.Native.Nat.{ℕ, _+_, _*_, _/_, _≤_}
-use mathlib.Core.Path.{_≡_, refl, sym, ap, _∙_}
-use mathlib.Core.Logic.{_↔_}
-use mathlib.Core.Bool.{Bool, true, false, not, _&&_, _||_}
+use Prim.Native.Nat.{ℕ, _+_, _*_, _/_, _≤_, _<_}
+use mathlib.Core.Path.{_≡_, refl, subst}
+use mathlib.Core.Logic.{_↔_, _⊎_, inl, inr}
+use mathlib.Core.Bool.{Bool, true, false, not, _&&_, _||_, and-false}
 use mathlib.Core.List.{List, [], _∷_}
 use native.Mathlib.Omega.{arith}
-use borrow.Author.Tests.{lt-ltb, le-ltb, lt-leb, le-leb}
+use borrow.Author.Tests.{eq-eqb, ne-eqb, eqb-true, eqb-false, lt-ltb, le-ltb, lt-leb, le-leb, leb-false}
 use lib.Dec.{leb, ltb}
 use lib.ListN.{length}
 use Rattle.relay.specs.Choice.{pick}
 use Rattle.relay.specs.Given.{givenBy}
 use Rattle.relay.specs.Kinds.{tableOk}
 use Rattle.relay.proofs.Given.{first, absent, once, first-given, table-wrong, not-both}
-use Rattle.relay.proofs.Truth.{least-or-below}
+use Rattle.relay.proofs.Truth.{facts, split, least-or-below}
 use Rattle.sheet.specs.Entry.{numberOf, postOf, answerOf, inFields}
 use Rattle.sheet.specs.Given.{outOfField, writeReasons}
+use Rattle.sheet.specs.Layout.{roomShort}
+use Rattle.sheet.specs.Reading.{verdict, verdictOf, accepted, decode, roomFor, readOf}
 use Rattle.sheet.specs.Sheet.{Sheet}
 use Rattle.sheet.specs.Writing.{allInFields, bytesFor, writeNumber}
+use Rattle.sheet.specs.declared.Verdict.{Verdict}
+use Rattle.sheet.proofs.First.{NamedSheet, verdict-iff}
 
 -- 'at most' and 'below' are each other's opposite
 not-leb : (m n : ℕ) → not (leb m n) ≡ ltb n m
@@ -43,3 +47,50 @@ write-first t m =
 pub write-given : (t : Sheet) (m k : ℕ) → (writeNumber t m ≡ k) ↔ (givenBy (writeReasons t m) k ≡ true)
 unfolding writeReasons once absent
 write-given t m k = first-given k (writeReasons t m) refl (write-first t m)
+
+-- ---- reading into room for m kinds and n events
+-- what a verdict may be
+pub data NamedRead (s : List ℕ) (m n : ℕ) : Verdict → Type 0 where
+  -- 18, 19 and 20
+  unread : {v : Verdict} → (v .number ≡ 0 → ⊥) → NamedSheet s v → NamedRead s m n v
+  -- 'room too short for them gives 21, last'
+  short : verdictOf s .number ≡ 0 → (m < length (decode s .kinds)) ⊎ (n < length (decode s .events)) → NamedRead s m n (verdict roomShort 0)
+  fits : verdictOf s .number ≡ 0 → length (decode s .kinds) ≤ m → length (decode s .events) ≤ n → NamedRead s m n (verdict 0 0)
+
+-- the number and block that reading returns
+abbrev pub readVerdict : List ℕ → ℕ → ℕ → Verdict
+readVerdict s m n = verdict (readOf s m n .number) (readOf s m n .block)
+
+-- the room by its two tests
+room-short : (t : Sheet) (m n : ℕ) → roomFor t m n ≡ false → (m < length (t .kinds)) ⊎ (n < length (t .events))
+unfolding roomFor
+room-short t m n e =
+    split (leb (length (t .kinds)) m)
+    (λ a. inr (leb-false _ _ (rw a at e)))
+    (λ a. inl (leb-false _ _ a))
+
+short-room : (t : Sheet) (m n : ℕ) → (m < length (t .kinds)) ⊎ (n < length (t .events)) → roomFor t m n ≡ false
+unfolding roomFor
+short-room t m n (inl h) = rw (lt-leb (length (t .kinds)) m h)
+short-room t m n (inr h) = rw (lt-leb (length (t .events)) n h) (and-false (leb (length (t .kinds)) m))
+
+read-named : (s : List ℕ) (m n : ℕ) → NamedRead s m n (readVerdict s m n)
+unfolding readOf roomFor
+read-named s m n =
+    split (accepted s)
+    (λ a.
+    let z = eqb-true (verdictOf s .number) 0 a in
+    split (roomFor (decode s) m n)
+    (λ b. let r = simp facts at b in rw (a, b) (fits z (r .0) (r .1)))
+    (λ b. rw (a, b) (short z (room-short (decode s) m n b))))
+    (λ a. rw a (unread (eqb-false (verdictOf s .number) 0 a) (verdict-iff s (verdictOf s) .0 refl)))
+
+names-read : (s : List ℕ) (m n : ℕ) (v : Verdict) → NamedRead s m n v → readVerdict s m n ≡ v
+unfolding readOf roomFor
+names-read s m n v (unread h b) = let e = verdict-iff s v .1 b in rw (e, ne-eqb (v .number) 0 h)
+names-read s m n v (short z h) = rw (eq-eqb (verdictOf s .number) 0 z, short-room (decode s) m n h)
+names-read s m n v (fits z h k) = rw (eq-eqb (verdictOf s .number) 0 z, le-leb (length (decode s .kinds)) m h, le-leb (length (decode s .events)) n k)
+
+-- 18 to 21 and 0 'given exactly when', with the block
+pub read-iff : (s : List ℕ) (m n : ℕ) (v : Verdict) → (readVerdict s m n ≡ v) ↔ NamedRead s m n v
+read-iff s m n v = (λ e. subst (NamedRead s m n) e (read-named s m n), names-read s m n v)
