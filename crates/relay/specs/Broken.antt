@@ -12,7 +12,7 @@ use lib.ListN.{length, set, take}
 use Rattle.relay.specs.Choice.{one}
 use Rattle.relay.specs.Examples.{Event, ev, afterAll}
 use Rattle.relay.specs.Kinds.{countFits, kindFits}
-use Rattle.relay.specs.Line.{After, head, freshLine}
+use Rattle.relay.specs.Line.{head, freshLine}
 use Rattle.relay.specs.Posts.{at, post, wordTo, more-a, more-x, more-y, more-v, more-g, more-r, more-q, more-e, more-c}
 use Rattle.relay.specs.Reached.{line, started, released}
 use Rattle.relay.specs.Relays.{An, KPg, L, RL, lever, signal, W314, W241, width, raise, lower}
@@ -163,19 +163,18 @@ faults l s = fault (countFits (length l)) + fault (leb (s .taken) mostEvents) + 
 unfoldable pub refusedForOne : List Post → Head → Bool
 refusedForOne l s = eqb (faults l s) 1 && not (valid l s)
 
--- the line that a row's history left, with 1,000 events taken so that no count is greater; and as other hands left it
-abbrev pub left : Row → After
-left r = afterAll (r .before) (started 1000)
+-- a row, on the line and head that its history left: there the line may be used, and as other hands leave it it is refused for one rule
+unfoldable pub alone : Row → List Post → Head → Bool
+alone r l s =
+    valid l s && refusedForOne (set (set l (r .at) (r .here (at l (r .at)))) (r .at + 1) (r .next (at l (r .at + 1)))) s
 
-abbrev pub altered : Row → List Post
-altered r =
-    set (set (left r .line) (r .at) (r .here (at (left r .line) (r .at)))) (r .at + 1) (r .next (at (left r .line) (r .at + 1)))
-
--- each row: as its history left it the line may be used, and as other hands left it it is refused for one rule
+-- each row, with 1,000 events taken before it, so that no count is greater
 unfoldable pub brokenAlone : List Row → Bool
 brokenAlone [] = true
 brokenAlone (r ∷ rs) =
-    (valid (left r .line) (left r .told .head) && refusedForOne (altered r) (left r .told .head)) && brokenAlone rs
+    let a = afterAll (r .before) (started 1000) in
+    let b = alone r (a .line) (a .told .head) in
+    b && brokenAlone rs
 
 -- ---- the rules of the whole line
 -- thirty-three posts: the two ends and thirty-one between
