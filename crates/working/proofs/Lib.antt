@@ -5,3 +5,4 @@ pub mod Works
 pub mod Twice
 pub mod One
 pub mod Named
+pub mod Paper

@@ -11,7 +11,7 @@ use lib.ListN.{length, drop}
 use Rattle.relay.specs.Kinds.{tableOk}
 use Rattle.sheet.specs.Sheet.{Sheet, encode}
 use Rattle.sheet.specs.Puts.{puts}
-use Rattle.sheet.specs.Writing.{bytesFor}
+use Rattle.sheet.specs.Writing.{allInFields, bytesFor}
 use Rattle.sheet.proofs.Puts.{puts-none}
 use Rattle.sheet.proofs.Laid.{table-few, later, block-more, laid, no-table, no-fields, too-many, no-room, wrote}
 use Rattle.sheet.proofs.write.Statement.{statement}
@@ -29,6 +29,10 @@ sheetOf stamp kinds events = record { stamp = stamp; kinds = kinds; events = eve
 -- what the test of the table says
 passed : (ks : List ℕ) (r v : Bool) → r ≡ (eqb (length ks) (length ks) && tableOk ks) → r ≡ v → tableOk ks ≡ v
 passed ks r v e f = sym (e ∙ rw (eq-eqb (length ks) (length ks) refl)) ∙ f
+
+-- past the second test every event is in its fields
+in-fields : (c : tie.Else2 Inv-loop μ-loop) → allInFields (c .before .before .before .before .before .before .args .events .now) ≡ true
+in-fields c = sym (c .before .all-in-fields .ensures) ∙ not-false _ (c .if2 .left)
 
 may-start-requires : tie.Need-may-start-requires Inv-loop μ-loop
 may-start-requires c κs = search needs
@@ -58,8 +62,7 @@ returns-3 c =
     let u = m .before .before .before in
     too-many (sheetOf (u .args .stamp) (u .args .kinds .now) (u .args .events .now)) (u .args .out .now)
     (passed _ _ true (m .may-start .ensures) (not-false _ (e .before .before .if1 .left)))
-    (sym (e .before .all-in-fields .ensures) ∙ not-false _ (e .if2 .left))
-    (omega arith)
+    (in-fields e) (omega arith)
 
 sub-n : tie.Need-sub-n Inv-loop μ-loop
 sub-n c = search needs
@@ -80,8 +83,7 @@ returns-4 c =
     let u = m .before .before .before in
     no-room (sheetOf (u .args .stamp) (u .args .kinds .now) (u .args .events .now)) (u .args .out .now)
     (passed _ _ true (m .may-start .ensures) (not-false _ (e .before .before .if1 .left)))
-    (sym (e .before .all-in-fields .ensures) ∙ not-false _ (e .if2 .left))
-    (omega arith) (omega arith)
+    (in-fields (c .before .before)) (omega arith) (omega arith)
 
 head-requires : tie.Need-head-requires Inv-loop μ-loop
 head-requires c κs =
@@ -93,9 +95,7 @@ loop-holds : tie.Need-loop-holds Inv-loop μ-loop
 loop-holds c = (search needs, refl, sym (puts-none _ _ _))
 
 events-requires : tie.Need-events-requires Inv-loop μ-loop
-events-requires c κs =
-    let e = c .before .before .before .before .before .before .before .before .before in
-    ((search needs), sym (e .before .all-in-fields .ensures) ∙ not-false _ (e .if2 .left))
+events-requires c κs = (search needs, in-fields (c .before .before .before .before .before .before .before .before .before))
 
 add-c : tie.Need-add-c Inv-loop μ-loop
 add-c c = search needs
@@ -132,8 +132,7 @@ returns-5 c =
     let w =
     wrote t d
     (passed _ _ true (m .may-start .ensures) (not-false _ (e .before .before .if1 .left)))
-    (sym (e .before .all-in-fields .ensures) ∙ not-false _ (e .if2 .left))
-    (omega arith) (omega arith) in
+    (in-fields (h .before .before .before .before)) (omega arith) (omega arith) in
     (w .0, o ∙ w .1)
 
 pub write-spec : {M : Type 1} → statement M
