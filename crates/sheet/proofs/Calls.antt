@@ -1,4 +1,4 @@
--- Both round trips, as the calls say them. 00, demand 2: 'A sheet that was written reads back as its table and events. An accepted sheet, read and written again, has the same bytes.'
+-- What a refused call leaves, and both round trips, as the calls say them. 00, demand 1: 'A refused sheet or write leaves the lent output unaltered.' Demand 2: 'A sheet that was written reads back as its table and events. An accepted sheet, read and written again, has the same bytes.'
 -- What writing stores is the sheet's bytes, which are accepted and say the sheet; what reading hands out is what the sheet says, which is written as its bytes.
 -- `Typed t` is what the arguments' types say of a sheet to write, and `Below 256 s` of a slice of bytes.
 -- Assumes nothing.
@@ -7,7 +7,7 @@ use mathlib.Core.Path.{_≡_, refl, sym, ap, _∙_}
 use mathlib.Core.Bool.{true}
 use mathlib.Core.List.{List, _++_}
 use native.Mathlib.Omega.{arith}
-use borrow.Author.Tests.{eqb-true, eqb-false, le-leb}
+use borrow.Author.Tests.{ne-eqb, eqb-true, eqb-false, le-leb}
 use lib.ListN.{length, take, drop}
 use lib.Seq.{take-at}
 use Rattle.relay.proofs.Truth.{split}
@@ -28,6 +28,17 @@ use Rattle.sheet.proofs.Writable.{Writable, Typed, took}
 -- what is handed out stands at the front of the room, and room past it stays as it was
 abbrev pub Out : {X : Type 0} → List X → List X → List X → Type 0
 Out xs room room′ = room′ ≡ xs ++ drop (length xs) room
+
+-- ---- refused
+-- a refused write leaves the output as it was
+pub refused-write : (t : Sheet) (r : ℕ) (out out′ : List ℕ) → Writes t r out out′ → (r ≡ 0 → ⊥) → out′ ≡ out
+unfolding written
+refused-write t r out out′ w n = w .1 ∙ rw (ne-eqb (writeNumber t (length out)) 0 (λ e. n (w .0 ∙ e)))
+
+-- a refused reading leaves both rooms as they were
+pub refused-read : (s : List ℕ) (f : Found) (ks ks′ : List ℕ) (es es′ : List (List ℕ)) → Reads s f ks ks′ es es′ → (f .number ≡ 0 → ⊥)
+    → (ks′ ≡ ks) × (es′ ≡ es)
+refused-read s f ks ks′ es es′ q n = let z = ne-eqb (f .number) 0 n in (q .1 ∙ rw z, q .2 ∙ rw z)
 
 -- ---- written, then read
 module _ (t : Sheet) (typed : Typed t) where

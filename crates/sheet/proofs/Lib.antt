@@ -12,6 +12,7 @@ pub mod Laid
 pub mod Lengths
 pub mod One
 pub mod Packing
+pub mod Paper
 pub mod Places
 pub mod Puts
 pub mod Rooms

@@ -8,3 +8,4 @@ pub mod Reading
 pub mod Shape
 pub mod Writing
 pub mod Given
+pub mod Examples
