@@ -1,7 +1,7 @@
 -- Each rule of a line that may be used, broken alone. 01, 'A line that may be used' and 'One post's relays': a table of lines, each a line that a
 -- history left, with one or two posts altered by other hands so that one rule is broken and every other one still holds.
--- That each of them breaks one rule and may not be used stands in proofs/Broken.antt. Rules that others imply cannot be broken alone and have no row: KPg at the origin (with
--- An down it breaks 'KPg requires An'), and the counts but a within the events taken (none is greater than a).
+-- That each of them breaks one rule and may not be used stands in proofs/Broken.antt. Rules that others imply cannot be broken alone and have
+-- no row: KPg at the origin (with An down it breaks 'KPg requires An'), and the counts but a within the events taken (none is greater than a).
 -- Assumes nothing.
 use Prim.Native.Nat.{ℕ, _+_, _^_}
 use mathlib.Core.Bool.{Bool, true, not, _&&_}
