@@ -48,7 +48,7 @@ module _ (ks : List ℕ) (t : ℕ) (r : Stood) (e : r ≡ startRow ks t) where
 
 -- an event on the row of a run is the run's next event
 module _ (ks : List ℕ) (t : ℕ) (h : tableOk ks ≡ true) (es : List (List ℕ)) where
-  few : length (run (begun ks t) es .line) ≤ most
+  pub few : length (run (begun ks t) es .line) ≤ most
   few = omega (arith, run-long (begun ks t) es, length-fresh ks, table-few ks h)
 
   pub row-next : (e : List ℕ) (n i u : ℕ) → eventRow (rowOf (run (begun ks t) es .line)) (run (begun ks t) es .told .head) n i u

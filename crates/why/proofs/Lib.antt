@@ -1,0 +1,3 @@
+pub mod Words
+pub mod Right
+pub mod Watched

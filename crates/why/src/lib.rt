@@ -1,0 +1,150 @@
+// Tell the pupil why: for a worked sheet and an event of it that was refused with 8, 9 or 13, the position of the event that put the relay in that state. 02, item 1.
+ghost use Prim.Native.Nat.{_≤_};
+ghost use mathlib.Core.Path.{_≡_};
+ghost use mathlib.Core.Bool.{true, not, _&&_};
+ghost use lib.ListN.{length};
+ghost use Rattle.relay.specs.Choice.{pick};
+ghost use Rattle.relay.specs.Kinds.{tableOk};
+ghost use Rattle.relay.specs.Posts.{at};
+ghost use Rattle.row.specs.Row.{lineOf};
+ghost use Rattle.why.specs.Why.{sinceIn, sinceOf, sinceWhen};
+ghost use Rattle.why.specs.Why.{so as Why·so, speaks as Why·speaks, since as Why·since};
+use row::Row;
+use sheet::layout::MOST_ENTRIES;
+
+// The sheet's answers aren't the ones that working its events gives, or the chosen event has another answer or doesn't exist.
+pub const NO_SUCH_REFUSAL: u32 = 29;
+
+// A refusal with its block and position 0, or 0 and 0 with the position of the event since which it is so; 0 is the start.
+#[repr(C)]
+pub struct Since {
+    pub number: u32,
+    pub block: u32,
+    pub position: u32,
+}
+
+fn refuse(number: u32, block: u32) -> Since
+    ensures { λ r. ⌜ r ≡ Why·since number block 0 ⌝ }
+{
+    Since {
+        number: number,
+        block: block,
+        position: 0,
+    }
+}
+
+// Whether an answer says that L or RL is down, or that RL is up.
+fn speaks(answer: u32) -> bool
+    ensures { λ r. ⌜ r ≡ Why·speaks answer ⌝ }
+{
+    if answer == relay::L_DOWN {
+        return true;
+    }
+    if answer == relay::RL_DOWN {
+        return true;
+    }
+    answer == relay::RL_UP
+}
+
+// Whether the relay that such an answer speaks of is as it says.
+fn so(answer: u32, word: u32) -> bool
+    ensures { λ r. ⌜ r ≡ Why·so answer word ⌝ }
+{
+    if answer == relay::L_DOWN {
+        return word & relay::L == 0;
+    }
+    if answer == relay::RL_DOWN {
+        return word & relay::RL == 0;
+    }
+    word & relay::RL != 0
+}
+
+// The word of a post of the row's line, 0 where it has no such post.
+fn word_at(row: Row, place: u32) -> u32
+    ensures { λ r. ⌜ r ≡ at (lineOf row) place .word ⌝ }
+{
+    let posts = row.posts;
+    let n = row.n;
+    let i = place as usize;
+    if 32 < n {
+        return 0;
+    }
+    if i < n {
+        return posts[i].word;
+    }
+    0
+}
+
+// The event at `here` where it made it so, else the one before.
+fn later(was: bool, is: bool, here: u32, since: u32) -> u32
+    ensures { λ r. ⌜ r ≡ pick (not was && is) here since ⌝ }
+{
+    if was {
+        return since;
+    }
+    if is {
+        return here;
+    }
+    since
+}
+
+// Works the events before and after the one at `position`, compares each answer, and watches the relay that `answer` speaks of at `place` up to it.
+fn watch(kinds: &[u32], stamp: u32, events: &[[u32; 4]], answer: u32, place: u32, position: u32) -> Since
+    requires { ⌜ (tableOk (now kinds) ≡ true) × (1 ≤ position) × (position ≤ length (now events)) × (length (now events) ≤ 3780) ⌝ }
+    ensures { λ r. ⌜ r ≡ sinceWhen (record { stamp = stamp; kinds = now (kinds .entry); events = now (events .entry) }) answer place position ⌝ }
+{
+    let begun = row::start_row(kinds, stamp);
+    let told = begun.told;
+    let mut row = begun.row;
+    let mut s = told.head;
+    let mut was = so(answer, word_at(row, place));
+    let mut since: u32 = 0;
+    let mut i: usize = 0;
+    let mut here: u32 = 1;
+    while i < events.len() {
+        let e = events[i];
+        let done = row::event_row(row, s, e[0], e[1], e[3]);
+        let got = done.told;
+        if got.answer != e[2] {
+            return refuse(NO_SUCH_REFUSAL, 0);
+        }
+        row = done.row;
+        s = got.head;
+        let is = so(answer, word_at(row, place));
+        since = later(was | (position <= here), is, here, since);
+        was = is;
+        i += 1;
+        here += 1;
+    }
+    Since {
+        number: 0,
+        block: 0,
+        position: since,
+    }
+}
+
+// Since when what the refusal of the event at `position` says is so.
+pub fn since_when(s: &[u8], position: u32) -> Since
+    ensures { λ r. ⌜ r ≡ sinceOf (now (s .entry)) position ⌝ }
+{
+    let mut kinds = [0u32; 32];
+    let mut events = [[0u32; 4]; MOST_ENTRIES];
+    let found = sheet::read(s, &mut kinds, &mut events);
+    if found.number != 0 {
+        return refuse(found.number, found.block);
+    }
+    let n = found.posts as usize;
+    let m = found.events as usize;
+    let k = position as usize;
+    if k == 0 {
+        return refuse(NO_SUCH_REFUSAL, 0);
+    }
+    if m < k {
+        return refuse(NO_SUCH_REFUSAL, 0);
+    }
+    let e = events[k - 1];
+    if !speaks(e[2]) {
+        return refuse(NO_SUCH_REFUSAL, 0);
+    }
+    watch(&kinds[..n], found.stamp, &events[..m], e[2], e[1], position)
+}
