@@ -3,9 +3,11 @@
 ghost use mathlib.Core.Path.{_≡_};
 ghost use Rattle.sheet.specs.Reading.{Reads, verdictOf};
 ghost use Rattle.sheet.specs.Writing.{Writes};
+ghost use Rattle.why.specs.Why.{sinceOf};
 ghost use Rattle.working.specs.Working.{Works};
 use sheet::Found;
 use sheet::Verdict;
+use why::Since;
 use working::Worked;
 
 // Tests a sheet.
@@ -38,4 +40,12 @@ pub extern "C" fn desk_work(s: &[u8], out: &mut [u8]) -> Worked
     ensures { λ r. ⌜ Works (now (s .entry)) r (now (out .entry)) (now (out .exit)) ⌝ }
 {
     working::work(s, out)
+}
+
+// Since when what a refusal of 8, 9 or 13 says is so.
+#[no_mangle]
+pub extern "C" fn desk_why(s: &[u8], position: u32) -> Since
+    ensures { λ r. ⌜ r ≡ sinceOf (now (s .entry)) position ⌝ }
+{
+    why::since_when(s, position)
 }

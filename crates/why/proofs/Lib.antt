@@ -1,3 +1,4 @@
 pub mod Words
 pub mod Right
 pub mod Watched
+pub mod Asked

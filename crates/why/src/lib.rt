@@ -89,7 +89,14 @@ fn later(was: bool, is: bool, here: u32, since: u32) -> u32
 }
 
 // Works the events before and after the one at `position`, compares each answer, and watches the relay that `answer` speaks of at `place` up to it.
-fn watch(kinds: &[u32], stamp: u32, events: &[[u32; 4]], answer: u32, place: u32, position: u32) -> Since
+fn watch(
+    kinds: &[u32],
+    stamp: u32,
+    events: &[[u32; 4]],
+    answer: u32,
+    place: u32,
+    position: u32,
+) -> Since
     requires { ⌜ (tableOk (now kinds) ≡ true) × (1 ≤ position) × (position ≤ length (now events)) × (length (now events) ≤ 3780) ⌝ }
     ensures { λ r. ⌜ r ≡ sinceWhen (record { stamp = stamp; kinds = now (kinds .entry); events = now (events .entry) }) answer place position ⌝ }
 {
