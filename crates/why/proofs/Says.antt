@@ -1,0 +1,66 @@
+-- What a refusal of 8, 9 or 13 says of the post that its event names: it stands in the line, is not the terminus, and its relay is so.
+-- It holds by the paper's table of numbers, row by row (relay's `answer-given`).
+-- Assumes nothing.
+use Prim.Native.Nat.{ℕ, _<_}
+use mathlib.Core.Path.{_≡_, refl, sym, _∙_}
+use mathlib.Core.Bool.{true, false, false≢true, _||_}
+use mathlib.Core.List.{List}
+use borrow.Author.Tests.{eqb-true}
+use lib.Dec.{eqb}
+use lib.ListN.{length}
+use Rattle.relay.proofs.Given.{answer-given}
+use Rattle.relay.proofs.Truth.{facts, or-facts}
+use Rattle.relay.specs.Answers.{lDown, rlDown, rlUp}
+use Rattle.relay.specs.Given.{reasons, eventReasons, givenBy}
+use Rattle.relay.specs.Kinds.{terminus}
+use Rattle.relay.specs.Line.{answerOf}
+use Rattle.relay.specs.Posts.{at}
+use Rattle.relay.specs.declared.Head.{Head}
+use Rattle.relay.specs.declared.Post.{Post}
+use Rattle.why.specs.Why.{speaks, so}
+
+pub record Says (n : ℕ) (l : List Post) (p : ℕ) : Type 0 where
+  pub there : p < length l
+  pub not-terminus : at l p .kind ≡ terminus → ⊥
+  pub so-now : so n (at l p .word) ≡ true
+
+module _ (l : List Post) (s : Head) (m p t : ℕ) where
+  says-8 : answerOf l s m p t ≡ lDown → Says lDown l p
+  unfolding givenBy reasons eventReasons so
+  says-8 e =
+      let g = simp facts at (answer-given l s m p t lDown .0 e) in
+      record {
+        there = g .1 .1 .0 .0;
+        not-terminus = g .1 .1 .1 .1 .1 .1 .1 .0 .1;
+        so-now = rw (g .1 .1 .1 .1 .1 .1 .1 .1);
+      }
+
+  says-9 : answerOf l s m p t ≡ rlDown → Says rlDown l p
+  unfolding givenBy reasons eventReasons so
+  says-9 e =
+      let g = simp facts at (answer-given l s m p t rlDown .0 e) in
+      record {
+        there = g .1 .1 .0 .0;
+        not-terminus = g .1 .1 .1 .1 .1 .0 .1 .1 .1 .0 (g .1 .1 .1 .1 .1 .1 .1 .1 .0);
+        so-now = rw (g .1 .1 .1 .1 .1 .1 .1 .1 .1);
+      }
+
+  says-13 : answerOf l s m p t ≡ rlUp → Says rlUp l p
+  unfolding givenBy reasons eventReasons so
+  says-13 e =
+      let g = simp facts at (answer-given l s m p t rlUp .0 e) in
+      record {
+        there = g .1 .1 .0 .0;
+        not-terminus = λ z. false≢true (rw z at (g .1 .1 .1 .1 .1 .1 .1 .1 .1 .1 .1 .0 .1));
+        so-now = g .1 .1 .1 .1 .1 .1 .1 .1 .1 .1 .1 .1;
+      }
+
+  pub says : (n : ℕ) → speaks n ≡ true → answerOf l s m p t ≡ n → Says n l p
+  unfolding speaks
+  says n a e =
+      or-facts (eqb n lDown) (eqb n rlDown || eqb n rlUp)
+      (λ z. let q = eqb-true n lDown z in rw q (says-8 (e ∙ q)))
+      (or-facts (eqb n rlDown) (eqb n rlUp)
+      (λ z. let q = eqb-true n rlDown z in rw q (says-9 (e ∙ q)))
+      (λ z. let q = eqb-true n rlUp z in rw q (says-13 (e ∙ q))))
+      a
