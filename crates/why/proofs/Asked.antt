@@ -9,11 +9,12 @@ use borrow.Author.Tests.{eq-eqb, le-leb, lt-leb}
 use lib.Dec.{leb}
 use lib.ListN.{length, getD, take, length-append}
 use lib.Seq.{getD-take, take-at}
+use Rattle.relay.proofs.Truth.{split}
 use Rattle.sheet.specs.Entry.{postOf, answerOf}
 use Rattle.sheet.specs.Reading.{accepted, verdictOf, decode, found, handed}
 use Rattle.sheet.specs.Sheet.{Sheet}
 use Rattle.sheet.specs.declared.Found.{Found}
-use Rattle.why.specs.Why.{noSuchRefusal, eventAt, speaks, asked, since, sinceWhen, sinceIn, sinceOf}
+use Rattle.why.specs.Why.{noSuchRefusal, eventAt, speaks, asWorked, asked, since, sinceWhen, sinceIn, sinceOf}
 
 -- ---- what is asked
 module _ (t : Sheet) (k : ℕ) where
@@ -48,10 +49,14 @@ module _ (s : List ℕ) (k : ℕ) where
     unfolding sinceIn
     since-not-asked h = rw h at since-read
 
-    since-in : asked (decode s) k ≡ true
+    pub since-in : asked (decode s) k ≡ true
         → sinceWhen (decode s) (answerOf (eventAt (decode s) k)) (postOf (eventAt (decode s) k)) k ≡ sinceOf s k
     unfolding sinceIn
     since-in h = rw h at since-read
+
+    pub since-not-worked : asWorked (decode s) ≡ false → since noSuchRefusal 0 0 ≡ sinceOf s k
+    unfolding sinceWhen
+    since-not-worked h = split (asked (decode s) k) (λ e. rw h at (since-in e)) (λ e. since-not-asked e)
 
     -- of what the sheet says, wherever it stands
     pub since-asked : asked (decode s) k ≡ true → (stamp : ℕ) (kinds : List ℕ) (events : List (List ℕ)) (e : List ℕ)

@@ -6,3 +6,7 @@ pub mod Says
 pub mod Made
 pub mod Start
 pub mod Cause
+pub mod Named
+pub mod One
+pub mod Worked
+pub mod Paper

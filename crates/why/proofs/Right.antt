@@ -1,15 +1,15 @@
 -- A sheet's answers are those of working its events exactly when each event has the one that it gets from the line as the events before it left it.
 -- Assumes nothing.
 use Prim.Native.Nat.{ℕ, zero, suc, _<_}
-use mathlib.Core.Path.{_≡_, refl, sym, ap, _∙_}
+use mathlib.Core.Path.{_≡_, refl, sym}
 use mathlib.Core.Logic.{_↔_}
-use mathlib.Core.Bool.{Bool, true, false, _&&_, and-false}
+use mathlib.Core.Bool.{true, false, and-false, false≢true}
 use mathlib.Core.List.{List, [], _∷_}
 use native.Mathlib.Omega.{arith}
-use borrow.Author.Tests.{eq-eqb, ne-eqb, eqb-true}
+use borrow.Author.Tests.{eq-eqb, ne-eqb, eqb-true, eqb-false}
 use lib.Dec.{eqb}
 use lib.ListN.{length, getD, take}
-use Rattle.relay.proofs.Truth.{and-facts}
+use Rattle.relay.proofs.Truth.{and-facts, nand-facts, split}
 use Rattle.relay.specs.Line.{After}
 use Rattle.sheet.specs.Entry.{answerOf}
 use Rattle.working.specs.Run.{next, run}
@@ -35,9 +35,19 @@ right-all a (e ∷ es) f =
 pub right-iff : (a : After) (es : List (List ℕ)) → (rightAnswers a es ≡ true) ↔ ((i : ℕ) → i < length es → Right a es i)
 right-iff a es = (right-at a es, right-all a es)
 
--- one event with another answer
+-- one event with another answer, and where the answers are not right there is one
 pub wrong-at : (a : After) (es : List (List ℕ)) (i : ℕ) → i < length es → (Right a es i → ⊥) → rightAnswers a es ≡ false
 unfolding rightAnswers run
 wrong-at a [] i h n = absurd (omega (arith, h))
 wrong-at a (e ∷ es) zero h n = rw (ne-eqb (answerOf e) (next a e .told .answer) n)
 wrong-at a (e ∷ es) (suc i) h n = rw (wrong-at (next a e) es i (omega arith) n) (and-false (eqb (answerOf e) (next a e .told .answer)))
+
+pub wrong-some : (a : After) (es : List (List ℕ)) → rightAnswers a es ≡ false → (i : ℕ) × ((i < length es) × (Right a es i → ⊥))
+unfolding rightAnswers run
+wrong-some a [] r = absurd (false≢true (sym r))
+wrong-some a (e ∷ es) r =
+    split (eqb (answerOf e) (next a e .told .answer))
+    (λ z.
+    let w = wrong-some (next a e) es (nand-facts (eqb (answerOf e) (next a e .told .answer)) (rightAnswers (next a e) es) .0 r z) in
+    (suc (w .0), (omega (arith, w .1 .0), w .1 .1)))
+    (λ z. (0, (omega arith, eqb-false (answerOf e) (next a e .told .answer) z)))
