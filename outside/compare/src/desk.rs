@@ -1,6 +1,6 @@
 //! A library that answers requests, and the desk's calls behind it.
 
-use model::{Entry, Found, Head, Post, Told, Worked};
+use model::{Entry, Found, Head, Post, Since, Told, Worked};
 
 use crate::request::{padded, post_words, row_words, Reply, Request};
 
@@ -34,6 +34,10 @@ pub trait Desk {
 
     fn work(&mut self, sheet: &[u8], out: &mut [u8]) -> Worked {
         model::work(sheet, out)
+    }
+
+    fn why(&mut self, sheet: &[u8], position: u32) -> Since {
+        model::why(sheet, position)
     }
 }
 
@@ -115,6 +119,10 @@ fn sheet_reply(desk: &mut dyn Desk, request: &Request) -> Reply {
             let mut words = vec![desk.write(kinds, *stamp, events, &mut out)];
             words.extend(padded(&out));
             words
+        }
+        Request::Why { sheet, position } => {
+            let since = desk.why(sheet, *position);
+            vec![since.number, since.block, since.position]
         }
         _ => Vec::new(),
     }

@@ -16,6 +16,7 @@ const FEW: Wanted = Wanted {
     events: 3_000,
     rows: 2_000,
     sheets: 1_000,
+    questions: 300,
 };
 
 fn command(words: &[&str]) -> Vec<String> {
