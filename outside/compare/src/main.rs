@@ -1,5 +1,6 @@
 //! compare [--seed S] [--events N] [--rows N] [--sheets N] [--questions N] [--only CASE] -- CMD ARGS..
 //! compare --desk [--seed S] [--sheets N] [--only CASE] -- CMD ARGS..
+//! The words of the working program are put behind CMD ARGS.
 
 use std::process::ExitCode;
 use std::time::Instant;
