@@ -116,9 +116,8 @@ fn sheet_reply(desk: &mut dyn Desk, request: &Request) -> Reply {
             fill,
         } => {
             let mut out = vec![*fill; *out_len];
-            let mut words = vec![desk.write(kinds, *stamp, events, &mut out)];
-            words.extend(padded(&out));
-            words
+            let number = desk.write(kinds, *stamp, events, &mut out);
+            [vec![number], padded(&out)].concat()
         }
         Request::Why { sheet, position } => {
             let since = desk.why(sheet, *position);

@@ -140,7 +140,8 @@ pub fn compare_program(command: &[String], seed: u64, sheets: u64) -> Result<Str
     }
     let [listed, worked, asked] = SORTS.map(|sort| (sort.share)(sheets));
     Ok(format!(
-        "{fixed} fixed runs, {wrong} of wrong words, {pipes} pipes, {failing} inputs that fail; random sheets: {listed} listed, {worked} worked, {asked} asked about"
+        "{fixed} fixed runs, {wrong} of wrong words, {pipes} pipes, {failing} inputs that fail; \
+        random sheets: {listed} listed, {worked} worked, {asked} asked about"
     ))
 }
 

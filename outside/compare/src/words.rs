@@ -15,58 +15,42 @@ use crate::sheets::{lively_sheet, put, renewed, Sheet};
 
 /// The refusals of `work` are said on standard error. What is refused is typed in.
 pub fn work_cases() -> Vec<Fixed> {
-    let refused = |name, sheet, text| Fixed {
+    let case = |name, sheet, wrote| Fixed {
         name,
         words: &["work"],
         sheet,
-        wrote: Wrote::saying(text),
+        wrote,
     };
-    let paper = papers_sheet();
-    let worked = paper.clone().worked().bytes();
-    let mut damaged = paper.bytes();
+    let refused = |name, sheet, text| case(name, sheet, Wrote::saying(text));
+    let paper = papers_sheet().bytes();
+    let worked = papers_sheet().worked().bytes();
+    let printed = Wrote {
+        printed: worked.clone(),
+        said: String::new(),
+    };
+    let mut damaged = paper.clone();
     put(&mut damaged, 1, 126, 1);
+    let (long, renewed) = (vec![1; 3_000_000], renewed(damaged.clone(), 1));
     let mut cases = vec![
-        Fixed {
-            name: "the paper's fifteen events, worked",
-            words: &["work"],
-            sheet: paper.bytes(),
-            wrote: Wrote {
-                printed: worked.clone(),
-                said: String::new(),
-            },
-        },
+        case("work: the paper's fifteen events", paper, printed),
         refused("work: empty input", vec![], "refused 18 0\n"),
-        refused(
-            "work: 3,000,000 bytes",
-            vec![1; 3_000_000],
-            "refused 18 0\n",
-        ),
-        refused("work: wrong check", damaged.clone(), "refused 19 1\n"),
-        refused(
-            "work: wrong contents",
-            renewed(damaged, 1),
-            "refused 20 1\n",
-        ),
+        refused("work: 3,000,000 bytes", long, "refused 18 0\n"),
+        refused("work: wrong check", damaged, "refused 19 1\n"),
+        refused("work: wrong contents", renewed, "refused 20 1\n"),
         refused("work: already worked", worked, "refused 20 1\n"),
     ];
-    for count in [
-        0,
-        1,
-        59,
-        60,
-        61,
-        120,
-        121,
-        1_000,
-        MOST_EVENTS - 1,
-        MOST_EVENTS,
-    ] {
-        let mut random = Random::of_case(0, BUILT, 2 + count as u64);
-        let posts = random.between(2, 32);
-        let sheet = lively_sheet(&mut random, posts, count).bytes();
-        cases.push(computed("a lively sheet, worked", &["work"], sheet));
-    }
+    cases.extend(COUNTS.map(lively_worked));
     cases
+}
+
+/// How many events the good sheets have that are worked.
+const COUNTS: [usize; 10] = [0, 1, 59, 60, 61, 120, 121, 1_000, 3_779, MOST_EVENTS];
+
+fn lively_worked(count: usize) -> Fixed {
+    let mut random = Random::of_case(0, BUILT, 2 + count as u64);
+    let posts = random.between(2, 32);
+    let sheet = lively_sheet(&mut random, posts, count).bytes();
+    computed("work: a lively sheet", &["work"], sheet)
 }
 
 /// Positions in the paper's worked sheet, and what is printed.

@@ -1,7 +1,6 @@
 //! 02, item 1: tell the pupil why.
 
 use crate::line::relay::{L, RL};
-use crate::line::Post;
 use crate::number::{LEVER_LOCKED, NOTHING_TO_TELL, RL_DOWN, RL_UP_ONWARD, TAKEN};
 use crate::sheet::contents;
 use crate::working::take_events;
@@ -32,8 +31,10 @@ pub fn why(sheet: &[u8], position: u32) -> Since {
         Err(refused) => return refusal(refused.number, refused.block),
     };
     let mut worked = found.clone();
-    let mut lines = Vec::new();
-    take_events(&mut worked, |row| lines.push(row.to_vec()));
+    let mut lines: Vec<Vec<u32>> = Vec::new();
+    take_events(&mut worked, |row| {
+        lines.push(row.iter().map(|post| post.word).collect());
+    });
     let before = (position as usize).checked_sub(1);
     let Some([_, post, answer, _]) = before.and_then(|at| found.events.get(at)) else {
         return refusal(NOTHING_TO_TELL, 0);
@@ -61,9 +62,9 @@ fn state_told(answer: u32) -> Option<(u32, bool)> {
 
 /// The last event before which the relay was in the other state and after which it is
 /// in this one: "the one that last dropped L for 8 or RL for 9, or raised RL for 13".
-/// Line k is the line after k events. "RL up from the start gives position 0."
-fn last_change(lines: &[Vec<Post>], post: usize, relay: u32, up: bool) -> u32 {
-    let is_so = |line: &[Post]| line[post].is_up(relay) == up;
+/// Line k has the relay words after k events. "RL up from the start gives position 0."
+fn last_change(lines: &[Vec<u32>], post: usize, relay: u32, up: bool) -> u32 {
+    let is_so = |line: &[u32]| (line[post] & relay != 0) == up;
     lines
         .windows(2)
         .rposition(|pair| !is_so(&pair[0]) && is_so(&pair[1]))
