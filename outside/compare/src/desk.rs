@@ -119,10 +119,7 @@ fn sheet_reply(desk: &mut dyn Desk, request: &Request) -> Reply {
             let number = desk.write(kinds, *stamp, events, &mut out);
             [vec![number], padded(&out)].concat()
         }
-        Request::Why { sheet, position } => {
-            let since = desk.why(sheet, *position);
-            vec![since.number, since.block, since.position]
-        }
+        Request::Why { sheet, position } => since_words(desk.why(sheet, *position)),
         _ => Vec::new(),
     }
 }
@@ -142,6 +139,10 @@ fn worked_words(worked: &Worked, out: &[u8]) -> Reply {
     words.extend(row_words(&worked.row));
     words.extend(padded(out));
     words
+}
+
+fn since_words(since: Since) -> Reply {
+    vec![since.number, since.block, since.position]
 }
 
 fn told_words(told: Told, row: &[Post]) -> Reply {
