@@ -78,6 +78,11 @@ struct desk_worked {
     struct desk_head head;
 };
 
+/* What desk_why returns: 0, 0 and the position of the event that is named; or a refusal, its block and position 0. */
+struct desk_since {
+    uint32_t number, block, position;
+};
+
 /* An event of a sheet: its number, its post or section, its answer (31: not yet answered), its stamp. */
 typedef uint32_t desk_entry[4];
 
@@ -122,6 +127,17 @@ uint32_t desk_write(const uint32_t *kinds, size_t k, uint32_t stamp, const desk_
  * A refusal leaves out as it was.
  */
 struct desk_worked desk_work(const uint8_t *sheet, size_t n, uint8_t *out, size_t room);
+
+/*
+ * Since when: of the event at this position (from 1) of a worked sheet, which was refused 8, 9 or 13, the position of
+ * the event before it that put the relay of its post in the state that refuses it: the one that last dropped L for 8,
+ * that last dropped RL for 9, that last raised RL for 13. An event that found the relay in that state already is not
+ * named. Position 0: RL was up from the start. 18, 19 and 20 with their block as desk_test; then 29 with block 0 where
+ * any of the sheet's answers, before or behind that event, is not the one that desk_work gives (so it is with a sheet
+ * not yet answered), where there is no event at this position (so it is with position 0), or where its answer is not
+ * 8, 9 or 13. Writes nothing.
+ */
+struct desk_since desk_why(const uint8_t *sheet, size_t n, uint32_t position);
 
 #ifdef __cplusplus
 }

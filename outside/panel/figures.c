@@ -6,8 +6,9 @@
  *                              the same on a line that is not tested
  *     check, sum, copy         desk_test; a plain Rust sum of each block; memcpy of the sheet
  *     work, listing            desk_work; the Rust model's listing
+ *     why, plain               desk_why and the Rust model's answer, of the last event that is refused 8, 9 or 13
  * Prints how long the rounds took, their number, and a number made of the results of one round: it is the same for
- * ledger, tested and simple.
+ * ledger, tested and simple, and for why and plain.
  */
 #include <stdio.h>
 #include <stdlib.h>
@@ -20,6 +21,7 @@ typedef struct desk_told event_call(struct desk_post *, size_t, struct desk_head
 event_call tested_event, simple_event;
 uint32_t plain_sum(const uint8_t *block);
 size_t plain_listing(const uint8_t *sheet, size_t n, uint8_t *page, size_t room);
+uint32_t plain_why(const uint8_t *sheet, size_t n, uint32_t position);
 
 static uint8_t input[1 << 16];
 static size_t input_bytes;
@@ -27,6 +29,8 @@ static uint32_t kinds[DESK_POSTS];
 static desk_entry entries[DESK_EVENTS];
 static struct desk_found found;
 static uint8_t page[1 << 17];
+static uint8_t done[DESK_SHEET];
+static uint32_t last_refused;
 
 static _Noreturn void fail(const char *why)
 {
@@ -67,14 +71,24 @@ static uint32_t copy(void)
 
 static uint32_t worked(void)
 {
-    struct desk_worked done = desk_work(input, input_bytes, page, sizeof page);
-
-    return done.number;
+    return desk_work(input, input_bytes, page, sizeof page).number;
 }
 
 static uint32_t listed(void)
 {
     return (uint32_t)plain_listing(input, input_bytes, page, sizeof page);
+}
+
+/* The sheet worked, and the position of its last event that may be asked about. */
+static void work_once(void)
+{
+    static desk_entry answered[DESK_EVENTS];
+
+    desk_work(input, input_bytes, done, sizeof done);
+    desk_read(done, input_bytes, kinds, DESK_POSTS, answered, DESK_EVENTS);
+    for (uint32_t i = 0; i < found.events; i++)
+        if (answered[i][2] == 8 || answered[i][2] == 9 || answered[i][2] == 13)
+            last_refused = i + 1;
 }
 
 static uint32_t round_of(const char *what)
@@ -95,6 +109,10 @@ static uint32_t round_of(const char *what)
         return worked();
     if (strcmp(what, "listing") == 0)
         return listed();
+    if (strcmp(what, "why") == 0)
+        return desk_why(done, input_bytes, last_refused).position;
+    if (strcmp(what, "plain") == 0)
+        return plain_why(done, input_bytes, last_refused);
     fail("no such figure");
 }
 
@@ -111,6 +129,8 @@ int main(int count, char **args)
     found = desk_read(input, input_bytes, kinds, DESK_POSTS, entries, DESK_EVENTS);
     if (found.number != 0)
         fail("the input is no sheet");
+    if (strcmp(args[1], "why") == 0 || strcmp(args[1], "plain") == 0)
+        work_once();
     clock_gettime(CLOCK_MONOTONIC, &from);
     for (long i = 0; i < rounds; i++)
         result = round_of(args[1]);

@@ -10,6 +10,7 @@
  *     6 WORK   bytes room fill, bytes                         -> number block n taken last, n records, room bytes
  *     7 RUN    n stamp k, n kinds, k times (number place stamp)
  *              -> START's reply, and EVENT's for each of the k, on one row that stays lent
+ *     8 WHY    bytes position, bytes                          -> number block position
  * `fill` is what a lent room holds before the call.
  *
  * Everything lent ends where memory ends: the page behind it may not be touched. The bytes before it are a canary.
@@ -350,6 +351,17 @@ static void work(void)
     give_bytes(out, room);
 }
 
+static void why(void)
+{
+    size_t n = count(MOST_BYTES);
+    uint32_t position = word();
+    uint8_t *sheet = lend_sheet(n);
+    struct desk_since since = desk_why(sheet, n, position);
+
+    same(&sheet_area);
+    give(&since, sizeof since);
+}
+
 static void run(void)
 {
     size_t n = count(MOST_POSTS);
@@ -406,7 +418,7 @@ static int guards(void)
 
 int main(int words, char **word_at)
 {
-    static void (*const calls[])(void) = {start, valid, event, read_sheet, write_sheet, work, run};
+    static void (*const calls[])(void) = {start, valid, event, read_sheet, write_sheet, work, run, why};
 
     make(&row_area);
     make(&kinds_area);

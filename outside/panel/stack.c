@@ -20,6 +20,7 @@ static struct desk_told told;
 static struct desk_verdict verdict;
 static struct desk_found found;
 static struct desk_worked worked;
+static struct desk_since since;
 static desk_entry entries[60];
 static uint8_t sheet[2 * DESK_BLOCK], out[2 * DESK_BLOCK];
 static uint32_t number;
@@ -33,6 +34,7 @@ static void one_test(void) { verdict = desk_test(sheet, sizeof sheet); }
 static void one_read(void) { found = desk_read(sheet, sizeof sheet, kinds, DESK_POSTS, entries, 60); }
 static void one_write(void) { number = desk_write(kinds, DESK_POSTS, 0, (const desk_entry *)entries, 60, sheet, sizeof sheet); }
 static void one_work(void) { worked = desk_work(sheet, sizeof sheet, out, sizeof out); }
+static void one_why(void) { since = desk_why(out, sizeof out, 60); }
 
 /* The bytes of stack that the call alters, from the highest down. */
 static size_t used(void (*call)(void))
@@ -70,8 +72,9 @@ int main(void)
     for (size_t i = 1; i < DESK_POSTS - 1; i++)
         kinds[i] = 4;
     kinds[DESK_POSTS - 1] = 1;
+    /* announced, and then refused 8 since event 1 */
     for (size_t i = 0; i < 60; i++)
-        memcpy(entries[i], (desk_entry){1, 0, 31, 0}, sizeof entries[i]);
+        memcpy(entries[i], (desk_entry){i == 0 ? 5 : 1, 0, 31, 0}, sizeof entries[i]);
     print("desk_start", one_start, 0, &told.answer);
     print("desk_event", one_event, 0, &told.answer);
     print("desk_event, refused", one_refused, 9, &told.answer);
@@ -80,5 +83,6 @@ int main(void)
     print("desk_test", one_test, 0, &verdict.number);
     print("desk_read", one_read, 0, &found.number);
     print("desk_work", one_work, 0, &worked.number);
+    print("desk_why", one_why, 1, &since.position);
     return 0;
 }

@@ -4,7 +4,7 @@ use crate::desk::{reply, Model};
 use crate::random::Random;
 use crate::request::{Reply, Request};
 use crate::variety::Variety;
-use crate::{full, histories, rooms, rows, starts, writes};
+use crate::{full, histories, questions, rooms, rows, starts, writes};
 
 /// A sort of cases. Its varieties take turns, so that each has its share.
 pub struct Sort {
@@ -43,6 +43,7 @@ pub struct Wanted {
     pub events: u64,
     pub rows: u64,
     pub sheets: u64,
+    pub questions: u64,
 }
 
 pub const ALTERED_ROWS: &str = "altered-rows";
@@ -73,15 +74,17 @@ pub fn sorts() -> Vec<Sort> {
         },
         each("writing", writes::WRITES),
         each("full-sheets", full::FULL),
+        each("questions", questions::QUESTIONS),
     ]
 }
 
 /// Each sort's share, in the order of `sorts`.
-fn shares(wanted: Wanted) -> [u64; 10] {
+fn shares(wanted: Wanted) -> [u64; 11] {
     let Wanted {
         events,
         rows,
         sheets,
+        questions,
     } = wanted;
     [
         events * 6 / 10,
@@ -94,6 +97,7 @@ fn shares(wanted: Wanted) -> [u64; 10] {
         sheets.div_ceil(2),
         sheets / 4,
         sheets / 200,
+        questions,
     ]
 }
 

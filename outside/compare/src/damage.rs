@@ -78,10 +78,7 @@ fn any_fields(random: &mut Random) -> Sheet {
 }
 
 fn worked(random: &mut Random) -> Vec<u8> {
-    let bytes = some(random, 0).bytes();
-    let mut out = vec![0; bytes.len()];
-    model::work(&bytes, &mut out);
-    out
+    some(random, 0).worked().bytes()
 }
 
 fn partly_answered(random: &mut Random) -> Vec<u8> {
@@ -313,14 +310,14 @@ fn check_without_block(random: &mut Random) -> Vec<u8> {
     bytes
 }
 
-fn break_check(random: &mut Random, bytes: &mut [u8], at: usize) {
+pub fn break_check(random: &mut Random, bytes: &mut [u8], at: usize) {
     let by = random.pick(&[1, u32::MAX, 1 << 31, CHECK]);
     let wrong = get(bytes, at, 127).wrapping_add(by);
     put(bytes, at, 127, wrong);
 }
 
 /// Wrong contents, and the check left as it was.
-fn break_contents(random: &mut Random, bytes: &mut [u8], at: usize) {
+pub fn break_contents(random: &mut Random, bytes: &mut [u8], at: usize) {
     let word = random.pick(&[0, 126]);
     let wrong = if word == 0 { 61 } else { filler(random) };
     put(bytes, at, word, wrong);

@@ -38,6 +38,7 @@ impl Request {
                     None => record_word(rest),
                 })
             }
+            Request::Why { .. } => named(&["number", "block", "position"], at, out_bytes),
             Request::Run { kinds, steps, .. } => {
                 let (turn, rest) = split(at, 3 + kinds.len() * POST_WORDS);
                 let name = named(TOLD, rest, record_word);
@@ -98,6 +99,9 @@ impl Request {
             ),
             Request::Work { sheet, out_len, .. } => {
                 format!("working {} bytes into {out_len} bytes", sheet.len())
+            }
+            Request::Why { sheet, position } => {
+                format!("since when, of event {position} of {} bytes", sheet.len())
             }
             _ => String::new(),
         }

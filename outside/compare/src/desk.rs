@@ -1,6 +1,6 @@
 //! A library that answers requests, and the desk's calls behind it.
 
-use model::{Entry, Found, Head, Post, Told, Worked};
+use model::{Entry, Found, Head, Post, Since, Told, Worked};
 
 use crate::request::{padded, post_words, row_words, Reply, Request};
 
@@ -34,6 +34,10 @@ pub trait Desk {
 
     fn work(&mut self, sheet: &[u8], out: &mut [u8]) -> Worked {
         model::work(sheet, out)
+    }
+
+    fn why(&mut self, sheet: &[u8], position: u32) -> Since {
+        model::why(sheet, position)
     }
 }
 
@@ -112,10 +116,10 @@ fn sheet_reply(desk: &mut dyn Desk, request: &Request) -> Reply {
             fill,
         } => {
             let mut out = vec![*fill; *out_len];
-            let mut words = vec![desk.write(kinds, *stamp, events, &mut out)];
-            words.extend(padded(&out));
-            words
+            let number = desk.write(kinds, *stamp, events, &mut out);
+            [vec![number], padded(&out)].concat()
         }
+        Request::Why { sheet, position } => since_words(desk.why(sheet, *position)),
         _ => Vec::new(),
     }
 }
@@ -135,6 +139,10 @@ fn worked_words(worked: &Worked, out: &[u8]) -> Reply {
     words.extend(row_words(&worked.row));
     words.extend(padded(out));
     words
+}
+
+fn since_words(since: Since) -> Reply {
+    vec![since.number, since.block, since.position]
 }
 
 fn told_words(told: Told, row: &[Post]) -> Reply {

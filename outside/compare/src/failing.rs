@@ -1,76 +1,51 @@
 //! The working program on an input that fails: it prints nothing, and says so.
 
-use std::io::{self, Read, Write};
+use std::io::{self, Write};
 use std::os::fd::OwnedFd;
 use std::os::unix::net::UnixStream;
-use std::process::{Command, Stdio};
-use std::sync::mpsc::sync_channel;
-use std::thread;
+use std::process::Stdio;
 
+use model::program::{asked, wrote, Wrote, UNREAD};
 use model::{BLOCK_BYTES, MOST_BLOCKS, MOST_EVENTS};
 
-use crate::child::{watch, TIME_LIMIT};
+use crate::child::TIME_LIMIT;
 use crate::fixed::short_sheet;
-
-/// What the program says on standard error, and nothing else anywhere.
-pub const UNREAD: &str = "the input could not be read\n";
-
-/// What a program wrote, on standard output and on standard error.
-struct Wrote {
-    printed: Vec<u8>,
-    said: Vec<u8>,
-}
+use crate::ran::{compared, run, run_on, with_words, Given, Ran};
 
 /// Runs the program on an input that gives these bytes and fails at the next read: a
 /// socket that does not wait, whose other end stays open to the end of the program.
-fn run_on_failing(command: &[String], bytes: &[u8]) -> io::Result<Wrote> {
+fn run_on_failing(command: &[String], bytes: &[u8]) -> io::Result<Ran> {
     let (mut ours, theirs) = UnixStream::pair()?;
     ours.set_write_timeout(Some(TIME_LIMIT))?;
     ours.write_all(bytes)?;
     theirs.set_nonblocking(true)?;
-    let mut child = Command::new(&command[0])
-        .args(&command[1..])
-        .stdin(Stdio::from(OwnedFd::from(theirs)))
-        .stdout(Stdio::piped())
-        .stderr(Stdio::piped())
-        .spawn()?;
-    let (stdout, stderr) = (child.stdout.take(), child.stderr.take());
-    let wrote = thread::scope(|scope| {
-        let (all_is_well, watched) = sync_channel(1);
-        scope.spawn(|| watch(&mut child, TIME_LIMIT, watched));
-        let said = scope.spawn(move || all_of(stderr));
-        let printed = all_of(stdout)?;
-        let said = said.join().map_err(|_| io::ErrorKind::Other)??;
-        let _ = all_is_well.send(());
-        io::Result::Ok(Wrote { printed, said })
-    })?;
-    child.wait()?;
-    Ok(wrote)
+    run(command, Stdio::from(OwnedFd::from(theirs)), |_| ())
 }
 
-fn all_of(stream: Option<impl Read>) -> io::Result<Vec<u8>> {
-    let mut bytes = Vec::new();
-    if let Some(mut stream) = stream {
-        stream.read_to_end(&mut bytes)?;
+/// Each input that fails, for each word; and first the same bytes where the input ends there,
+/// which are answered, so that a program which takes a failure for the end is found.
+pub fn check_failing_inputs(command: &[String]) -> Result<usize, String> {
+    let inputs = failing_inputs();
+    let lines: [&[&str]; 3] = [&[], &["work"], &["why", "5"]];
+    for words in lines {
+        let command = with_words(command, words.iter().copied());
+        let asked = asked(words).ok_or("a wrong word")?;
+        for bytes in &inputs {
+            let named = |how| {
+                move |text| {
+                    format!(
+                        "{words:?}, an input that {how} after {} bytes: {text}",
+                        bytes.len()
+                    )
+                }
+            };
+            let ended = run_on(&command, bytes, Given::AtOnce);
+            compared(ended, &wrote(asked, bytes)).map_err(named("ends"))?;
+            let failed = run_on_failing(&command, bytes);
+            compared(failed, &Wrote::saying(UNREAD)).map_err(named("fails"))?;
+        }
     }
-    Ok(bytes)
-}
-
-/// What the program must do where its input fails after these bytes.
-pub fn check_failing(command: &[String], bytes: &[u8]) -> Result<(), String> {
-    let wrote = run_on_failing(command, bytes)
-        .map_err(|error| format!("the program could not be run: {error}"))?;
-    let (printed, said) = (
-        String::from_utf8_lossy(&wrote.printed),
-        String::from_utf8_lossy(&wrote.said),
-    );
-    if !printed.is_empty() {
-        return Err(format!("printed {printed:?}, and a read had failed"));
-    }
-    if said != UNREAD {
-        return Err(format!("said {said:?}, and {UNREAD:?} is expected"));
-    }
-    Ok(())
+    Ok(lines.len() * inputs.len())
 }
 
 /// Inputs that fail: at once, within a block, after whole blocks, where a sheet that

@@ -1,20 +1,22 @@
-//! The working program's fixed cases, always run.
+//! The working program's fixed cases, always run: sheets to list.
 
+use model::program::{asked, wrote, Wrote};
 use model::{paper, Entry, MOST_EVENTS, UNANSWERED};
 
 use crate::histories::{lively_event, near_stamp, Play};
 use crate::random::Random;
 use crate::sheets::{lively_sheet, put, renewed, Sheet};
 
-/// A sheet for the program and what it must print.
+/// A sheet for the program, the words that it has beside, and what it must write.
 pub struct Fixed {
     pub name: &'static str,
+    pub words: &'static [&'static str],
     pub sheet: Vec<u8>,
-    pub listing: String,
+    pub wrote: Wrote,
 }
 
-/// The sort number of the sheets built here.
-const BUILT: u64 = 101;
+/// The sort number of the sheets that are built for fixed cases.
+pub const BUILT: u64 = 101;
 
 /// A sheet of kinds 0, 1 from stamp 0; event k is stamped 1000k.
 pub fn short_sheet(events: &[(u32, u32)]) -> Sheet {
@@ -26,13 +28,37 @@ pub fn short_sheet(events: &[(u32, u32)]) -> Sheet {
     }
 }
 
-fn papers_sheet() -> Vec<u8> {
+pub fn papers_sheet() -> Sheet {
     Sheet {
         kinds: paper::KINDS.to_vec(),
         stamp: 0,
         events: paper::unanswered(),
     }
-    .bytes()
+}
+
+/// A sheet that is listed so.
+fn listed(name: &'static str, sheet: Vec<u8>, text: &str) -> Fixed {
+    Fixed {
+        name,
+        words: &[],
+        sheet,
+        wrote: Wrote::printing(text),
+    }
+}
+
+fn refused(name: &'static str, sheet: Vec<u8>, number: u32, block: u32) -> Fixed {
+    listed(name, sheet, &format!("refused {number} {block}\n"))
+}
+
+/// A case by the model; the words are right ones.
+pub fn computed(name: &'static str, words: &'static [&'static str], sheet: Vec<u8>) -> Fixed {
+    let asked = asked(words).expect("right words");
+    Fixed {
+        name,
+        words,
+        wrote: wrote(asked, &sheet),
+        sheet,
+    }
 }
 
 /// 32 posts, kinds 2, 3 and 4 inside by turns, and a history in which every event
@@ -74,22 +100,14 @@ pub fn sheet_of_everything() -> Sheet {
 
 /// The cases that are always run. What is refused is typed in, not computed.
 pub fn fixed_cases() -> Vec<Fixed> {
-    let refused = |name, sheet, number: u32, block: u32| Fixed {
-        name,
-        sheet,
-        listing: format!("refused {number} {block}\n"),
-    };
+    let header = short_sheet(&[]).bytes();
     let mut cases = vec![
-        Fixed {
-            name: "the paper's fifteen events",
-            sheet: papers_sheet(),
-            listing: paper::LISTING.to_string(),
-        },
-        Fixed {
-            name: "a header alone",
-            sheet: short_sheet(&[]).bytes(),
-            listing: "S 0 0 0 0 0 0 0 0 0 0\n".to_string(),
-        },
+        listed(
+            "the paper's fifteen events",
+            papers_sheet().bytes(),
+            paper::LISTING,
+        ),
+        listed("a header alone", header, "S 0 0 0 0 0 0 0 0 0 0\n"),
         refused("empty input", vec![], 18, 0),
         refused("511 bytes", vec![0; 511], 18, 0),
         refused("513 bytes", vec![0; 513], 18, 0),
@@ -97,21 +115,19 @@ pub fn fixed_cases() -> Vec<Fixed> {
         refused("33,280 bytes", vec![0; 33_280], 18, 0),
         refused("3,000,000 bytes", vec![1; 3_000_000], 18, 0),
     ];
-    cases.extend(fixed_damaged(&refused));
-    cases.extend(fixed_answered(&refused));
+    cases.extend(fixed_damaged());
+    cases.extend(fixed_answered());
     cases.extend(fixed_large());
     cases
 }
 
-fn fixed_damaged(refused: &dyn Fn(&'static str, Vec<u8>, u32, u32) -> Fixed) -> Vec<Fixed> {
+fn fixed_damaged() -> Vec<Fixed> {
     let changed = |block, word, value| {
         let mut sheet = short_sheet(&[(1, 0); 200]).bytes();
         put(&mut sheet, block, word, value);
         sheet
     };
-    let paper = papers_sheet();
-    let mut worked = vec![0; paper.len()];
-    model::work(&paper, &mut worked);
+    let worked = papers_sheet().worked().bytes();
     let wrong_table = renewed(changed(0, 0, 2), 0);
     let wrong_later = renewed(changed(3, 0, 59), 3);
     vec![
@@ -142,7 +158,7 @@ const ANSWERED: &[(&str, usize, &[usize], u32)] = &[
     ("answered: the last of a full sheet", 3_780, &[3_779], 63),
 ];
 
-fn fixed_answered(refused: &dyn Fn(&'static str, Vec<u8>, u32, u32) -> Fixed) -> Vec<Fixed> {
+fn fixed_answered() -> Vec<Fixed> {
     let case = |&(name, count, answered, block): &(&'static str, usize, &[usize], u32)| {
         let mut sheet = short_sheet(&vec![(1, 0); count]);
         for &at in answered {
@@ -157,13 +173,8 @@ fn fixed_large() -> Vec<Fixed> {
     let mut random = Random::of_case(0, BUILT, 1);
     let everything = sheet_of_everything().bytes();
     let full = lively_sheet(&mut random, 32, MOST_EVENTS).bytes();
-    let computed = |name, sheet: Vec<u8>| Fixed {
-        name,
-        listing: model::listing(&sheet),
-        sheet,
-    };
     vec![
-        computed("every event and answer at 32 posts", everything),
-        computed("3,780 events at 32 posts", full),
+        computed("every event and answer at 32 posts", &[], everything),
+        computed("3,780 events at 32 posts", &[], full),
     ]
 }

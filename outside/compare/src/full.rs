@@ -3,6 +3,7 @@
 use model::{BLOCK_BYTES, MOST_BLOCKS, MOST_EVENTS};
 
 use crate::histories::some_posts;
+use crate::questions::{ask, chosen, TOLD};
 use crate::random::Random;
 use crate::request::Request;
 use crate::sheets::{lively_sheet, put, renew, Sheet};
@@ -67,6 +68,15 @@ pub const FULL: &[Variety] = &[
         sheet.resize(random.pick(&lengths), 0);
         work(random, sheet, 0)
     }),
+    ("why, 3,780 events", |random| {
+        let (sheet, at) = chosen(random, &TOLD, full_worked);
+        ask(sheet.bytes(), at as u32 + 1)
+    }),
+    ("why, the last of 3,780 answers altered", |random| {
+        let (mut sheet, at) = chosen(random, &TOLD, full_worked);
+        sheet.events[MOST_EVENTS - 1][2] ^= 1;
+        ask(sheet.bytes(), at as u32 + 1)
+    }),
     ("write 3,780 events", |random| write(random, MOST_EVENTS, 0)),
     ("write 3,780 events, output one short", |random| {
         write(random, MOST_EVENTS, -1)
@@ -93,6 +103,10 @@ pub const FULL: &[Variety] = &[
 fn full_sheet(random: &mut Random) -> Sheet {
     let posts = some_posts(random);
     lively_sheet(random, posts, MOST_EVENTS)
+}
+
+fn full_worked(random: &mut Random) -> Sheet {
+    full_sheet(random).worked()
 }
 
 /// Wrong in its check or, under a right one, in its contents.

@@ -117,6 +117,50 @@ pub fn lively_event(random: &mut Random, play: &mut Play, stamp: u32) -> Step {
     step
 }
 
+/// The events that are refused 8, 9 and 13, and these answers.
+const REFUSED: [(u32, u32); 3] = [(1, 8), (5, 9), (6, 13)];
+
+/// What a train asks for next where posts block at the signal pedal: the lever, the
+/// pedal, the lever again, the announcement.
+fn trains_event(post: &Post) -> Option<u32> {
+    let [l, rl, lever, signal] =
+        [relay::L, relay::RL, relay::LEVER, relay::SIGNAL].map(|mask| post.is_up(mask));
+    if !rl || !(post.kind == 0 || post.kind == 2) {
+        return None;
+    }
+    Some(match (lever, signal) {
+        (true, true) => 4,
+        (true, false) => 2,
+        _ if l => 1,
+        _ => 5,
+    })
+}
+
+/// One event at this stamp, already played: often the next of a train, or one that is
+/// refused 8, 9 or 13.
+pub fn pupils_event(random: &mut Random, play: &mut Play, stamp: u32) -> Step {
+    let posts = play.row.len();
+    if random.chance(40) {
+        let place = random.below(posts);
+        if let Some(number) = trains_event(&play.row[place]) {
+            let step = [number, place as u32, stamp];
+            play.take(step);
+            return step;
+        }
+    }
+    if random.chance(25) {
+        let (number, answer) = random.pick(&REFUSED);
+        let first = random.below(posts);
+        let places = (first..posts).chain(0..first);
+        let mut steps = places.map(|place| [number, place as u32, stamp]);
+        // A refused event leaves the line as it was, so it need not be played.
+        if let Some(step) = steps.find(|step| play.clone().take(*step) == answer) {
+            return step;
+        }
+    }
+    lively_event(random, play, stamp)
+}
+
 /// A stamp not far from the last, now and then behind it.
 pub fn near_stamp(random: &mut Random, last: u32) -> u32 {
     match random.below(30) {

@@ -1,5 +1,6 @@
-//! compare [--seed S] [--events N] [--rows N] [--sheets N] [--only CASE] -- CMD ARGS..
+//! compare [--seed S] [--events N] [--rows N] [--sheets N] [--questions N] [--only CASE] -- CMD ARGS..
 //! compare --desk [--seed S] [--sheets N] [--only CASE] -- CMD ARGS..
+//! The words of the working program are put behind CMD ARGS.
 
 use std::process::ExitCode;
 use std::time::Instant;
@@ -10,7 +11,7 @@ use compare::program::{compare_program, only_program};
 use compare::run::{compare, named_case, only, Difference};
 
 const USAGE: &str = "compare [--desk] [--seed S] [--events N] [--rows N] [--sheets N] \
-    [--only CASE] -- CMD ARGS..";
+    [--questions N] [--only CASE] -- CMD ARGS..";
 
 const FIXED_SEED: u64 = 317_944;
 
@@ -20,6 +21,7 @@ struct Options {
     events: u64,
     rows: u64,
     sheets: Option<u64>,
+    questions: u64,
     only: Option<String>,
     command: Vec<String>,
 }
@@ -32,6 +34,7 @@ impl Default for Options {
             events: 2_000_000,
             rows: 500_000,
             sheets: None,
+            questions: 20_000,
             only: None,
             command: Vec::new(),
         }
@@ -61,6 +64,7 @@ fn options(mut arguments: impl Iterator<Item = String>) -> Result<Options, Strin
             "--events" => options.events = number()?,
             "--rows" => options.rows = number()?,
             "--sheets" => options.sheets = Some(number()?),
+            "--questions" => options.questions = number()?,
             "--only" => options.only = Some(value),
             _ => return Err(USAGE.to_string()),
         }
@@ -103,6 +107,7 @@ fn run_library(options: &Options) -> Result<(), String> {
         events: options.events,
         rows: options.rows,
         sheets: options.sheets.unwrap_or(200_000),
+        questions: options.questions,
     };
     let tally = compare(&sorts, seed, wanted, &mut library).map_err(told)?;
     library.finish()?;

@@ -49,6 +49,10 @@ pub enum Request {
         stamp: u32,
         steps: Vec<Step>,
     },
+    Why {
+        sheet: Vec<u8>,
+        position: u32,
+    },
 }
 
 impl Request {
@@ -112,6 +116,9 @@ impl Request {
                 let front = [6, size(sheet.len()), size(*out_len), u32::from(*fill)];
                 joined(&front, &[&padded(sheet)])
             }
+            Request::Why { sheet, position } => {
+                joined(&[8, size(sheet.len()), *position], &[&padded(sheet)])
+            }
             _ => Vec::new(),
         }
     }
@@ -139,6 +146,7 @@ impl Request {
                 5 + front[2] as usize * POST_WORDS + out_len.div_ceil(4)
             }
             Request::Run { kinds, steps, .. } => (1 + steps.len()) * (3 + kinds.len() * POST_WORDS),
+            Request::Why { .. } => 3,
         }
     }
 }

@@ -36,7 +36,9 @@ struct Expected {
 impl Batch {
     fn push(&mut self, case: Case) {
         let of_request = match &case.request {
-            Request::Read { sheet, .. } | Request::Work { sheet, .. } => sheet.len() / 4,
+            Request::Read { sheet, .. }
+            | Request::Work { sheet, .. }
+            | Request::Why { sheet, .. } => sheet.len() / 4,
             Request::Write { events, .. } => 4 * events.len(),
             _ => 0,
         };

@@ -1,11 +1,13 @@
 //! Good sheets of lively histories, and the words of their blocks.
 
-use model::{renew_check, Entry, BLOCK_BYTES, EVENTS_PER_BLOCK, UNANSWERED};
+use model::{renew_check, Entry, BLOCK_BYTES, EVENTS_PER_BLOCK, MOST_EVENTS, UNANSWERED};
 
 use crate::histories::{lively_event, near_stamp, some_posts, table, Play};
 use crate::random::Random;
+use crate::request::Step;
 
 /// A table, a start stamp and events.
+#[derive(Clone)]
 pub struct Sheet {
     pub kinds: Vec<u32>,
     pub stamp: u32,
@@ -22,6 +24,28 @@ impl Sheet {
         let number = model::write(&self.kinds, self.stamp, &self.events, &mut out);
         assert_eq!(number, 0, "the generator's sheets can be written");
         out
+    }
+
+    /// The sheet that these bytes are, if they are a good one.
+    pub fn of(bytes: &[u8]) -> Option<Sheet> {
+        let (mut kinds, mut events) = (vec![0; 32], vec![[0; 4]; MOST_EVENTS]);
+        let found = model::read(bytes, &mut kinds, &mut events);
+        kinds.truncate(found.posts as usize);
+        events.truncate(found.events as usize);
+        (found.number == 0).then_some(Sheet {
+            kinds,
+            stamp: found.stamp,
+            events,
+        })
+    }
+
+    /// The same events with the answers that working gives them.
+    pub fn worked(mut self) -> Sheet {
+        let mut play = Play::from_start(&self.kinds, self.stamp);
+        for [number, place, answer, stamp] in &mut self.events {
+            *answer = play.take([*number, *place, *stamp]);
+        }
+        self
     }
 }
 
@@ -46,13 +70,20 @@ pub fn some(random: &mut Random, least: usize) -> Sheet {
 }
 
 pub fn lively_sheet(random: &mut Random, posts: usize, count: usize) -> Sheet {
+    sheet_by(random, posts, count, lively_event)
+}
+
+/// The next event of a history at this stamp, already played.
+type Next = fn(&mut Random, &mut Play, u32) -> Step;
+
+pub fn sheet_by(random: &mut Random, posts: usize, count: usize, next: Next) -> Sheet {
     let kinds = table(random, posts);
     let stamp = random.edge_word();
     let mut play = Play::from_start(&kinds, stamp);
     let mut events = Vec::with_capacity(count);
     for _ in 0..count {
         let at = near_stamp(random, play.head.last);
-        let [number, place, stamp] = lively_event(random, &mut play, at);
+        let [number, place, stamp] = next(random, &mut play, at);
         events.push([number, place, UNANSWERED, stamp]);
     }
     Sheet {

@@ -4,6 +4,7 @@ use std::fmt::Write;
 
 use crate::cases::{Case, Sort, ALTERED_ROWS};
 use crate::request::{Request, POST_WORDS};
+use crate::seen::{Question, RARELY, SEEN};
 
 pub const ANSWERS: usize = 22;
 
@@ -29,6 +30,8 @@ pub struct Tally {
     pub answers: [u64; ANSWERS],
     pub altered_valid: u64,
     pub taken: [[u64; 5]; 11],
+    pub questions: u64,
+    pub seen: [u64; SEEN.len()],
 }
 
 impl Tally {
@@ -49,6 +52,9 @@ impl Tally {
                 self.add_history(kinds, steps, &case.expected);
             }
             Request::Valid { .. } => {}
+            Request::Why { sheet, position } => {
+                self.add_question(&Question::new(sheet, *position, &case.expected));
+            }
             _ => self.answers[first as usize] += 1,
         }
         if sorts[case.sort].name == ALTERED_ROWS {
@@ -72,7 +78,26 @@ impl Tally {
         }
     }
 
-    /// What was wanted and never seen, one line for each.
+    fn add_question(&mut self, question: &Question) {
+        self.questions += 1;
+        for (count, (_, has)) in self.seen.iter_mut().zip(SEEN) {
+            *count += u64::from(has(question));
+        }
+    }
+
+    /// The questions that were asked too rarely, one line for each.
+    fn rarely_asked(&self) -> Vec<String> {
+        let least = (self.questions / RARELY).max(1);
+        let counts = self.seen.iter().zip(SEEN);
+        counts
+            .filter(|(count, _)| **count < least)
+            .map(|(count, (name, _))| {
+                format!("questions, {name}: {count}, and at least {least} are wanted")
+            })
+            .collect()
+    }
+
+    /// What was wanted and never seen, or too rarely, one line for each.
     pub fn missing(&self, sorts: &[Sort]) -> Vec<String> {
         let mut lines = Vec::new();
         for (answer, count) in self.answers.iter().enumerate() {
@@ -94,6 +119,7 @@ impl Tally {
                 }
             }
         }
+        lines.extend(self.rarely_asked());
         lines
     }
 
@@ -124,6 +150,14 @@ impl Tally {
                 let _ = write!(text, " {count:8}");
             }
             text.push('\n');
+        }
+        let _ = writeln!(
+            text,
+            "{} questions of since when, among them:",
+            self.questions
+        );
+        for (count, (name, _)) in self.seen.iter().zip(SEEN) {
+            let _ = writeln!(text, "  {name:34} {count:8}");
         }
         text
     }

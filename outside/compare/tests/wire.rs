@@ -16,6 +16,7 @@ const FEW: Wanted = Wanted {
     events: 3_000,
     rows: 2_000,
     sheets: 1_000,
+    questions: 300,
 };
 
 fn command(words: &[&str]) -> Vec<String> {
@@ -68,30 +69,94 @@ fn the_models_program_passes() {
     assert!(run.is_ok(), "{run:?}");
 }
 
+/// The line of a shell, as a program with the words behind it, must be found, and the
+/// difference has this text.
+fn must_be_found(wrong: &[(String, &str)]) {
+    for (line, text) in wrong {
+        let run = compare_program(&command(&["sh", "-c", line, "sh"]), 3, 10);
+        let found = run.expect_err(line);
+        assert!(found.contains(text), "{line}: {found}");
+    }
+}
+
 #[test]
 fn a_wrong_program_is_found() {
-    let desk = format!("{SERVER} --desk");
-    let wrong = [
-        "cat > /dev/null".to_string(),
-        "head -c 1 > /dev/null; exit 0".to_string(),
-        format!("{desk}; exit 3"),
-        format!("{desk} | tr S s"),
-        format!("{desk}; echo"),
-        format!("head -c 1024 | {desk}"),
+    let desk = format!("{SERVER} --desk \"$@\"");
+    must_be_found(&[
+        ("cat > /dev/null".to_string(), "the paper's fifteen"),
+        ("head -c 1 > /dev/null; exit 0".to_string(), "line 1"),
+        (format!("{desk}; exit 3"), "exit status"),
+        (format!("{desk} | tr S s"), "line 16"),
+        (format!("{desk}; echo"), "line 17"),
+        (format!("head -c 1024 | {desk}"), "33,280 bytes"),
         // Events 60 to 63 reckoned into block 1, as if a block held 64.
-        format!("{desk} | sed 's/^refused 20 2$/refused 20 1/'"),
-        // A failed read is the end of the input to what follows.
-        format!("cat 2>/dev/null | {desk}"),
-        // So it is here, where something was read before it.
-        format!(
-            "f=$(mktemp); if cat >$f 2>/dev/null || [ -s $f ]; then {desk} <$f; \
-            else echo the input could not be read >&2; fi; rm $f"
+        (
+            format!("{desk} | sed 's/^refused 20 2$/refused 20 1/'"),
+            "the first of block 2",
         ),
-    ];
-    for line in wrong {
-        let run = compare_program(&command(&["sh", "-c", &line]), 3, 10);
-        assert!(run.is_err(), "{line}");
-    }
+        // A failed read is the end of the input to what follows.
+        (
+            format!("if [ $# -gt 0 ]; then {desk}; else cat 2>/dev/null | {desk}; fi"),
+            "[], an input that fails",
+        ),
+        // So it is here, where something was read before it.
+        (
+            format!(
+                "if [ $# -gt 0 ]; then {desk}; exit; fi; f=$(mktemp); \
+                if cat >$f 2>/dev/null || [ -s $f ]; then {desk} <$f; \
+                else echo the input could not be read >&2; fi; rm $f"
+            ),
+            "[], an input that fails after 1 bytes",
+        ),
+    ]);
+}
+
+/// The model's program, but for these words: there the line, in which DESK is the
+/// program, stands in its place.
+fn but_for(words: &str, line: &str) -> String {
+    let desk = format!("{SERVER} --desk \"$@\"");
+    let line = line.replace("DESK", &desk);
+    format!("case \"$*\" in {words}) {line};; *) {desk};; esac")
+}
+
+#[test]
+fn a_program_with_wrong_words_is_found() {
+    let taken_for = |words, others| but_for(words, &format!("set -- {others}; DESK"));
+    must_be_found(&[
+        (format!("{SERVER} --desk"), "words [\"work\"]"),
+        (but_for("work", "DESK 2>&1"), "work: empty input"),
+        (but_for("work", "DESK 2>/dev/null"), "work: empty input"),
+        (but_for("work", "DESK | head -c 32767"), "byte 32767"),
+        (but_for("why*", "DESK >&2"), "words [\"why\", \"5\"]"),
+        (but_for("'why 3780'", "DESK | cut -c -8"), "3,780 events"),
+        (but_for("why*", "DESK | sed s/^0$/1/"), "P 11"),
+        // Words that are not tested as they should be.
+        (taken_for("list", ""), "words [\"list\"]"),
+        (taken_for("'work '", "work"), "words [\"work\", \"\"]"),
+        (taken_for("'why 5 5'", "why 5"), "[\"why\", \"5\", \"5\"]"),
+        (taken_for("'why 0'[0-9]*", "why 5"), "[\"why\", \"05\"]"),
+        (taken_for("'why +5'", "why 5"), "[\"why\", \"+5\"]"),
+        (taken_for("'why 4294967301'", "why 5"), "\"4294967301\""),
+        (taken_for("'why 4294967295'", "why +"), "\"4294967295\""),
+        // Wrong words, and the input is looked at all the same.
+        (
+            but_for("'why 5x'", "head -c 1 >/dev/null; DESK"),
+            "1 bytes were read",
+        ),
+        (
+            but_for("'why 5x'", "cat >/dev/null; DESK"),
+            "1024 bytes were read",
+        ),
+        // A failed read is the end of the input, for these words.
+        (
+            but_for("work", "cat 2>/dev/null | DESK"),
+            "[\"work\"], an input that fails",
+        ),
+        (
+            but_for("'why 5'", "cat 2>/dev/null | DESK"),
+            "\"5\"], an input that fails",
+        ),
+    ]);
 }
 
 #[test]

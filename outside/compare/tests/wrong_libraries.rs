@@ -3,10 +3,11 @@
 
 mod common;
 
-use common::{must_differ, small_run};
+use common::{must_differ, small_run, SMALL};
 use compare::cases::{sorts, Wanted};
 use compare::desk::{Desk, InProcess, Model};
 use compare::run::compare;
+use compare::seen::SEEN;
 use compare::sheets::{blocks, get, put, renew};
 use model::{relay, Entry, Found, Head, Post, Told, Worked};
 
@@ -14,6 +15,21 @@ use model::{relay, Entry, Found, Head, Post, Told, Worked};
 fn the_model_passes_and_all_is_seen() {
     let tally = small_run(Model).unwrap_or_else(|d| panic!("{}: {}", d.name, d.text));
     assert_eq!(tally.missing(&sorts()), Vec::<String>::new());
+}
+
+#[test]
+fn questions_that_are_not_asked_are_missed() {
+    let wanted = Wanted {
+        questions: 0,
+        sheets: 0,
+        ..SMALL
+    };
+    let run = compare(&sorts(), 1, wanted, &mut InProcess(Model));
+    let missing = run.map_or(Vec::new(), |tally| tally.missing(&sorts()));
+    let questions = missing
+        .iter()
+        .filter(|line| line.starts_with("questions, "));
+    assert_eq!(questions.count(), SEEN.len());
 }
 
 /// The gate's whole run in this process: cargo test --release -- --ignored.
@@ -24,6 +40,7 @@ fn the_model_passes_a_whole_run() {
         events: 2_000_000,
         rows: 500_000,
         sheets: 200_000,
+        questions: 20_000,
     };
     let began = std::time::Instant::now();
     let run = compare(&sorts(), 317_944, wanted, &mut InProcess(Model));

@@ -77,6 +77,15 @@ pub struct Worked {
     pub head: Head,
 }
 
+/// What a question of since when returns.
+#[repr(C)]
+#[derive(Clone, Copy, Debug, Default, PartialEq, Eq)]
+pub struct Since {
+    pub number: u32,
+    pub block: u32,
+    pub position: u32,
+}
+
 /// An event of a sheet: number, post or section, answer, stamp.
 pub type Entry = [u32; 4];
 
@@ -121,6 +130,7 @@ mod c {
             n: usize,
         ) -> u32;
         pub fn desk_work(sheet: *const u8, n: usize, out: *mut u8, room: usize) -> Worked;
+        pub fn desk_why(sheet: *const u8, n: usize, position: u32) -> Since;
     }
 }
 
@@ -194,4 +204,10 @@ pub fn write(kinds: &[u32], stamp: u32, events: &[Entry], out: &mut [u8]) -> u32
 pub fn work(sheet: &[u8], out: &mut [u8]) -> Worked {
     // SAFETY: see above.
     unsafe { c::desk_work(sheet.as_ptr(), sheet.len(), out.as_mut_ptr(), out.len()) }
+}
+
+/// Since when the event at this position of a worked sheet is refused 8, 9 or 13.
+pub fn why(sheet: &[u8], position: u32) -> Since {
+    // SAFETY: see above.
+    unsafe { c::desk_why(sheet.as_ptr(), sheet.len(), position) }
 }

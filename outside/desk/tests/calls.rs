@@ -1,5 +1,5 @@
 //! Each call once through the wrapper: that pointers, counts and returned structs meet the C calling convention.
-use desk::{event, read, start, test, valid, work, write, Head, Post, Verdict};
+use desk::{event, read, start, test, valid, why, work, write, Head, Post, Since, Verdict};
 use model::paper::{answered, unanswered, KINDS};
 
 fn is_last(row: &[Post]) -> bool {
@@ -55,6 +55,26 @@ fn empty_slices() {
     assert_eq!(work(&[], &mut []).number, 18);
     assert_eq!(write(&KINDS, 0, &[], &mut []), 21);
     assert_eq!(read(&[], &mut [], &mut []).number, 18);
+    assert_eq!(why(&[], 1), since(18, 0, 0));
+}
+
+fn since(number: u32, block: u32, position: u32) -> Since {
+    Since {
+        number,
+        block,
+        position,
+    }
+}
+
+#[test]
+fn since_when_the_lever_is_locked() {
+    let mut sheet = [0; 1024];
+    assert_eq!(write(&KINDS, 0, &answered(), &mut sheet), 0);
+    assert_eq!(why(&sheet, 5), since(0, 0, 2));
+    assert_eq!(why(&sheet, 13), since(0, 0, 2));
+    assert_eq!(why(&sheet, 9), since(29, 0, 0));
+    sheet[600] ^= 1;
+    assert_eq!(why(&sheet, 5), since(19, 1, 0));
 }
 
 #[test]

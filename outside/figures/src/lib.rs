@@ -1,5 +1,5 @@
 //! Plain Rust beside the ledger, for figures: the model's event with all its tests, the same event on a line that is
-//! not tested, the sum of a block, and the listing. The C program `figures` calls these and the ledger in one run.
+//! not tested, the sum of a block, the listing, and since when. The C program `figures` calls these and the ledger in one run.
 use model::{Head, Post, Told};
 use std::slice;
 
@@ -53,4 +53,13 @@ pub unsafe extern "C" fn plain_listing(
     let text = model::listing(slice::from_raw_parts(sheet, n));
     slice::from_raw_parts_mut(page, room)[..text.len()].copy_from_slice(text.as_bytes());
     text.len()
+}
+
+/// The event that is named for this position of a worked sheet.
+///
+/// # Safety
+/// `sheet` leads to `n` bytes.
+#[no_mangle]
+pub unsafe extern "C" fn plain_why(sheet: *const u8, n: usize, position: u32) -> u32 {
+    model::why(slice::from_raw_parts(sheet, n), position).position
 }

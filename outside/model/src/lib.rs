@@ -1,13 +1,16 @@
-//! An outside model of the block desk, written from 01-scope.md alone.
+//! An outside model of the block desk, written from 01-scope.md and, for what came
+//! after it, from 02-change-requests.md alone.
 //!
-//! It says what the paper says, in the paper's order, in the plainest way.
-//! "01, X" in a comment names the part X of the paper.
+//! It says what the papers say, in their order, in the plainest way. "01, X" in a
+//! comment names the part X of the first, "02, item K" an item of the second.
 
 mod events;
 mod line;
 mod listing;
 pub mod paper;
+pub mod program;
 mod sheet;
+mod why;
 mod working;
 
 pub use events::{event, event_on_valid};
@@ -17,9 +20,10 @@ pub use sheet::{
     read, renew_check, write, Entry, Found, BLOCK_BYTES, CHECK, EVENTS_PER_BLOCK, MOST_BLOCKS,
     MOST_EVENTS, UNANSWERED,
 };
+pub use why::{why, Since};
 pub use working::{work, Worked};
 
-/// 01, Numbers returned.
+/// 01, Numbers returned, and 29 by 02, item 1.
 pub mod number {
     pub const TAKEN: u32 = 0;
     pub const NOT_VALID: u32 = 1;
@@ -43,4 +47,5 @@ pub mod number {
     pub const CHECK_WRONG: u32 = 19;
     pub const CONTENTS: u32 = 20;
     pub const TOO_SHORT: u32 = 21;
+    pub const NOTHING_TO_TELL: u32 = 29;
 }

@@ -1,10 +1,8 @@
 //! 01, The program and one listing.
 
-use std::fmt::Write;
-
 use crate::line::{relay, Post};
 use crate::number::TAKEN;
-use crate::sheet::contents;
+use crate::sheet::{contents, Entry};
 use crate::working::work;
 
 /// What the working program prints for these bytes on standard input.
@@ -12,19 +10,27 @@ pub fn listing(sheet: &[u8]) -> String {
     let mut out = vec![0; sheet.len()];
     let worked = work(sheet, &mut out);
     if worked.number != TAKEN {
-        return format!("refused {} {}\n", worked.number, worked.block);
+        return refused_line(worked.number, worked.block);
     }
     let mut text = String::new();
     let events = contents(&out).map_or(Vec::new(), |found| found.events);
-    for (at, [number, post, answer, _]) in events.iter().enumerate() {
-        let position = at + 1;
-        // Writing to a String cannot fail.
-        let _ = writeln!(text, "{position} {number} {post} {answer}");
+    for (position, event) in (1..).zip(&events) {
+        text.push_str(&event_line(position, event));
     }
     for (section, pair) in worked.row.windows(2).enumerate() {
         text.push_str(&section_line(section, &pair[0], &pair[1]));
     }
     text
+}
+
+/// "A refused sheet prints only "refused", its number and the block."
+pub(crate) fn refused_line(number: u32, block: u32) -> String {
+    format!("refused {number} {block}\n")
+}
+
+/// "Position from 1, event, post, answer."
+pub(crate) fn event_line(position: u32, &[number, post, answer, _]: &Entry) -> String {
+    format!("{position} {number} {post} {answer}\n")
 }
 
 /// "S, section, a, r, x, q, e, y, v, g, h."

@@ -32,6 +32,7 @@ pub struct Found {
 }
 
 /// A good sheet's table, start stamp and events with their answers.
+#[derive(Clone)]
 pub(crate) struct Contents {
     pub kinds: Vec<u32>,
     pub stamp: u32,

@@ -3,7 +3,7 @@
 use crate::events::event;
 use crate::line::{start, Head, Post};
 use crate::number::{CONTENTS, TAKEN, TOO_SHORT};
-use crate::sheet::{contents, write, EVENTS_PER_BLOCK, UNANSWERED};
+use crate::sheet::{contents, write, Contents, EVENTS_PER_BLOCK, UNANSWERED};
 
 /// What a working returns, beside the output. A refusal: its number and block, an
 /// empty row and a head of zeros.
@@ -39,13 +39,7 @@ pub fn work(sheet: &[u8], out: &mut [u8]) -> Worked {
     if out.len() < sheet.len() {
         return refusal(TOO_SHORT, 0);
     }
-    let mut row = vec![Post::default(); found.kinds.len()];
-    let mut head = start(&mut row, &found.kinds, found.stamp).head;
-    for entry in &mut found.events {
-        let told = event(&mut row, head, entry[0], entry[1], entry[3]);
-        entry[2] = told.answer;
-        head = told.head;
-    }
+    let (row, head) = take_events(&mut found, |_| ());
     let number = write(&found.kinds, found.stamp, &found.events, out);
     assert_eq!(number, TAKEN, "a sheet that was read can be written");
     Worked {
@@ -54,4 +48,19 @@ pub fn work(sheet: &[u8], out: &mut [u8]) -> Worked {
         row,
         head,
     }
+}
+
+/// Takes the events one after the other from the fresh line, and fills in their
+/// answers. The fresh line is shown to `see`, and the line after each event.
+pub(crate) fn take_events(found: &mut Contents, mut see: impl FnMut(&[Post])) -> (Vec<Post>, Head) {
+    let mut row = vec![Post::default(); found.kinds.len()];
+    let mut head = start(&mut row, &found.kinds, found.stamp).head;
+    see(&row);
+    for entry in &mut found.events {
+        let told = event(&mut row, head, entry[0], entry[1], entry[3]);
+        entry[2] = told.answer;
+        head = told.head;
+        see(&row);
+    }
+    (row, head)
 }

@@ -1,17 +1,10 @@
 //! The paper's own examples, and its sentences on starting, sheets and stamps.
 
+mod common;
+
+use common::{fifteen, sheet};
 use model::number::*;
 use model::*;
-
-fn sheet(kinds: &[u32], stamp: u32, events: &[Entry]) -> Vec<u8> {
-    let mut out = vec![0; BLOCK_BYTES * (1 + events.len().div_ceil(EVENTS_PER_BLOCK))];
-    assert_eq!(write(kinds, stamp, events, &mut out), TAKEN);
-    out
-}
-
-fn fifteen() -> Vec<u8> {
-    sheet(&paper::KINDS, 0, &paper::unanswered())
-}
 
 fn fresh(kinds: &[u32], stamp: u32) -> (Vec<Post>, Head) {
     let mut row = vec![Post::default(); kinds.len()];

@@ -1,11 +1,10 @@
 //! The model behind the wire that a library's server has: what the tests of the
-//! wire talk to, and a pattern for such a server. With --desk it is the working
-//! program.
+//! wire talk to, and a pattern for such a server. With --desk, which comes first, it
+//! is the working program; the program's words follow.
 
 use std::io::{self, BufRead, BufReader, Read, Write};
 
 use compare::desk::{reply, Model};
-use compare::failing::UNREAD;
 use compare::request::{post_of, Request, POST_WORDS};
 use model::{Head, Post};
 
@@ -104,24 +103,23 @@ impl<R: Read> Wire<R> {
                     fill: fill as u8,
                 })
             }
+            8 => {
+                let [bytes, position] = self.few()?;
+                let sheet = self.bytes(bytes as usize)?;
+                Ok(Request::Why { sheet, position })
+            }
             _ => Err(io::ErrorKind::InvalidData.into()),
         }
     }
 }
 
 fn main() -> io::Result<()> {
-    if std::env::args().any(|argument| argument == "--desk") {
-        return work();
+    let words: Vec<String> = std::env::args().skip(1).collect();
+    let words: Vec<&str> = words.iter().map(String::as_str).collect();
+    match words.split_first() {
+        Some((&"--desk", words)) => model::program::desk(words),
+        _ => serve(),
     }
-    serve()
-}
-
-fn work() -> io::Result<()> {
-    let mut sheet = Vec::new();
-    if io::stdin().lock().read_to_end(&mut sheet).is_err() {
-        return io::stderr().write_all(UNREAD.as_bytes());
-    }
-    io::stdout().write_all(model::listing(&sheet).as_bytes())
 }
 
 fn serve() -> io::Result<()> {

@@ -9,6 +9,7 @@ pub const SMALL: Wanted = Wanted {
     events: 20_000,
     rows: 20_000,
     sheets: 4_000,
+    questions: 2_000,
 };
 
 pub fn small_run(desk: impl Desk) -> Result<Tally, Difference> {

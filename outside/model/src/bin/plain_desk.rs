@@ -1,11 +1,7 @@
-//! The working program as the model has it: a sheet in, its listing out.
+//! The working program as the model has it.
 
-use std::io::{self, BufWriter, Read, Write};
-
-fn main() -> io::Result<()> {
-    let mut sheet = Vec::new();
-    io::stdin().lock().read_to_end(&mut sheet)?;
-    let mut out = BufWriter::new(io::stdout().lock());
-    out.write_all(model::listing(&sheet).as_bytes())?;
-    out.flush()
+fn main() -> std::io::Result<()> {
+    let words: Vec<String> = std::env::args().skip(1).collect();
+    let words: Vec<&str> = words.iter().map(String::as_str).collect();
+    model::program::desk(&words)
 }

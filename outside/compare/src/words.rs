@@ -1,0 +1,250 @@
+//! The program's words: fixed cases of `work` and `why`, wrong words, and a pipe.
+
+use std::fs::{self, File, OpenOptions};
+use std::io::{self, Seek, Write};
+use std::process::{self, Stdio};
+use std::sync::atomic::{AtomicU32, Ordering::Relaxed};
+
+use model::program::{Wrote, USAGE};
+use model::{MOST_EVENTS, UNANSWERED};
+
+use crate::fixed::{computed, papers_sheet, short_sheet, Fixed, BUILT};
+use crate::ran::{compared, run, run_on, with_words, Given};
+use crate::random::Random;
+use crate::sheets::{lively_sheet, put, renewed, Sheet};
+
+/// The refusals of `work` are said on standard error. What is refused is typed in.
+pub fn work_cases() -> Vec<Fixed> {
+    let case = |name, sheet, wrote| Fixed {
+        name,
+        words: &["work"],
+        sheet,
+        wrote,
+    };
+    let refused = |name, sheet, text| case(name, sheet, Wrote::saying(text));
+    let paper = papers_sheet().bytes();
+    let worked = papers_sheet().worked().bytes();
+    let printed = Wrote {
+        printed: worked.clone(),
+        said: String::new(),
+    };
+    let mut damaged = paper.clone();
+    put(&mut damaged, 1, 126, 1);
+    let (long, renewed) = (vec![1; 3_000_000], renewed(damaged.clone(), 1));
+    let mut cases = vec![
+        case("work: the paper's fifteen events", paper, printed),
+        refused("work: empty input", vec![], "refused 18 0\n"),
+        refused("work: 3,000,000 bytes", long, "refused 18 0\n"),
+        refused("work: wrong check", damaged, "refused 19 1\n"),
+        refused("work: wrong contents", renewed, "refused 20 1\n"),
+        refused("work: already worked", worked, "refused 20 1\n"),
+    ];
+    cases.extend(COUNTS.map(lively_worked));
+    cases
+}
+
+/// How many events the good sheets have that are worked.
+const COUNTS: [usize; 10] = [0, 1, 59, 60, 61, 120, 121, 1_000, 3_779, MOST_EVENTS];
+
+fn lively_worked(count: usize) -> Fixed {
+    let mut random = Random::of_case(0, BUILT, 2 + count as u64);
+    let posts = random.between(2, 32);
+    let sheet = lively_sheet(&mut random, posts, count).bytes();
+    computed("work: a lively sheet", &["work"], sheet)
+}
+
+/// Positions in the paper's worked sheet, and what is printed.
+const PAPER: &[(&[&str], &str)] = &[
+    (&["why", "5"], "2 4 0 0\n"),
+    (&["why", "13"], "2 4 0 0\n"),
+    (&["why", "0"], "refused 29 0\n"),
+    (&["why", "1"], "refused 29 0\n"),
+    (&["why", "3"], "refused 29 0\n"),
+    (&["why", "16"], "refused 29 0\n"),
+    (&["why", "65541"], "refused 29 0\n"),
+    (&["why", "4294967295"], "refused 29 0\n"),
+];
+
+pub fn why_cases() -> Vec<Fixed> {
+    let case = |name, words, sheet: Vec<u8>, text| Fixed {
+        name,
+        words,
+        sheet,
+        wrote: Wrote::printing(text),
+    };
+    let worked = papers_sheet().worked().bytes();
+    let of_paper = |&(words, text): &(&'static [&'static str], &'static str)| {
+        case("the paper's worked sheet", words, worked.clone(), text)
+    };
+    let mut cases: Vec<Fixed> = PAPER.iter().map(of_paper).collect();
+    let mut damaged = worked.clone();
+    put(&mut damaged, 1, 126, 1);
+    let handed_in = papers_sheet().bytes();
+    let full = full_of_9().bytes();
+    cases.extend([
+        case("P 11", &["why", "4"], case_11().bytes(), "0\n"),
+        case("not answered", &["why", "5"], handed_in, "refused 29 0\n"),
+        case("cut", &["why", "5"], worked[1..].to_vec(), "refused 18 0\n"),
+        case(
+            "wrong check",
+            &["why", "5"],
+            damaged.clone(),
+            "refused 19 1\n",
+        ),
+        case(
+            "wrong contents",
+            &["why", "0"],
+            renewed(damaged, 1),
+            "refused 20 1\n",
+        ),
+        case("3,780 events", &["why", "3780"], full, "3778 5 0 0\n"),
+    ]);
+    cases
+}
+
+/// The paper's case 11: RL is up from the start.
+fn case_11() -> Sheet {
+    let entry = |(number, post)| [number, post, UNANSWERED, 0];
+    Sheet {
+        kinds: vec![0, 4, 1],
+        stamp: 0,
+        events: [(5, 0), (8, 0), (3, 1), (6, 1)].map(entry).to_vec(),
+    }
+    .worked()
+}
+
+/// Announced, lost and restored again and again, and announced twice at the end.
+fn full_of_9() -> Sheet {
+    let mut events = [(5, 0), (9, 0), (10, 0)].repeat(MOST_EVENTS / 3);
+    events[MOST_EVENTS - 3..].copy_from_slice(&[(5, 0), (9, 0), (5, 0)]);
+    short_sheet(&events).worked()
+}
+
+/// Words that are wrong: other words, too many, too few, and no position.
+const WRONG: &[&[&str]] = &[
+    &["list"],
+    &["Work"],
+    &["works"],
+    &["wor"],
+    &["why5"],
+    &["5"],
+    &[""],
+    &["", "5"],
+    &["--help"],
+    &["work", "5"],
+    &["work", "work"],
+    &["work", ""],
+    &["why"],
+    &["why", "5", "5"],
+    &["why", "5", ""],
+    &["why", "why"],
+];
+
+/// Behind `why`. Some are 5 when they are carried round at 2^32 or at 2^64.
+const NO_POSITION: &[&str] = &[
+    "",
+    "05",
+    "00",
+    "000000000005",
+    "+5",
+    "-1",
+    "-0",
+    " 5",
+    "5 ",
+    "5\n",
+    "5x",
+    "x",
+    "0x5",
+    "5.0",
+    "5,",
+    "\u{665}",
+    "/",
+    ":",
+    "4294967296",
+    "4294967301",
+    "10000000000",
+    "18446744073709551621",
+    "1000000000000000000000000000000000000005",
+    "5555555555555555555555555555555555555555",
+];
+
+/// Each wrong line of words: the program says how it is used, and reads nothing. First
+/// a right one, so that what is read is noticed.
+pub fn check_wrong_words(command: &[String]) -> Result<usize, String> {
+    let sheet = papers_sheet().worked().bytes();
+    let behind_why: Vec<[&str; 2]> = NO_POSITION.iter().map(|word| ["why", word]).collect();
+    let wrong: Vec<&[&str]> = WRONG
+        .iter()
+        .copied()
+        .chain(behind_why.iter().map(|line| &line[..]))
+        .collect();
+    let right = Wrote::printing("2 4 0 0\n");
+    check_read(command, &["why", "5"], &sheet, &right, sheet.len() as u64)?;
+    for words in &wrong {
+        check_read(command, words, &sheet, &Wrote::saying(USAGE), 0)?;
+    }
+    Ok(1 + wrong.len())
+}
+
+/// One run on a file, and how far into it the program has read.
+fn check_read(
+    command: &[String],
+    words: &[&str],
+    sheet: &[u8],
+    right: &Wrote,
+    read: u64,
+) -> Result<(), String> {
+    let told = |text| format!("words {words:?}: {text}");
+    let no_file = |error: io::Error| told(format!("no file to read: {error}"));
+    let mut file = nameless_file(sheet).map_err(no_file)?;
+    let theirs = file.try_clone().map_err(no_file)?;
+    let ran = run(
+        &with_words(command, words.iter().copied()),
+        Stdio::from(theirs),
+        |_| (),
+    );
+    compared(ran, right).map_err(told)?;
+    match file.stream_position().map_err(no_file)? {
+        bytes if bytes == read => Ok(()),
+        bytes => Err(told(format!(
+            "{bytes} bytes were read, and {read} are expected"
+        ))),
+    }
+}
+
+/// A file of these bytes, open at its front, that has no name any more.
+fn nameless_file(bytes: &[u8]) -> io::Result<File> {
+    static MADE: AtomicU32 = AtomicU32::new(0);
+    let name = format!("sheet-{}-{}", process::id(), MADE.fetch_add(1, Relaxed));
+    let path = std::env::temp_dir().join(name);
+    let mut file = OpenOptions::new()
+        .read(true)
+        .write(true)
+        .create_new(true)
+        .open(&path)?;
+    fs::remove_file(&path)?;
+    file.write_all(bytes)?;
+    file.rewind()?;
+    Ok(file)
+}
+
+/// `desk work <SHEET | desk why 5`, by a shell; and a refused sheet, after which the
+/// second has an empty input.
+pub fn check_pipe(command: &[String]) -> Result<usize, String> {
+    let line = ["sh", "-c", "\"$@\" work | \"$@\" why 5", "sh"].map(str::to_string);
+    let piped = with_words(&line, command.iter().map(String::as_str));
+    let paper = papers_sheet();
+    let refused = Wrote {
+        printed: b"refused 18 0\n".to_vec(),
+        said: "refused 20 1\n".to_string(),
+    };
+    let runs = [
+        (paper.bytes(), Wrote::printing("2 4 0 0\n")),
+        (paper.worked().bytes(), refused),
+    ];
+    for (sheet, right) in &runs {
+        compared(run_on(&piped, sheet, Given::AtOnce), right)
+            .map_err(|text| format!("work | why 5: {text}"))?;
+    }
+    Ok(runs.len())
+}
