@@ -1,8 +1,7 @@
 -- The word of a post of a row's line, by where the post stands: past the line it is that of a blank record.
 -- Assumes nothing.
 use Prim.Native.Nat.{ℕ, zero, suc, _≤_, _<_}
-use mathlib.Core.Path.{_≡_, refl, ap, _∙_}
-use mathlib.Core.Bool.{Bool}
+use mathlib.Core.Path.{_≡_, refl, _∙_}
 use mathlib.Core.List.{List, [], _∷_}
 use native.Mathlib.Omega.{arith}
 use borrow.Author.Tests.{le-leb, lt-leb}
@@ -13,7 +12,6 @@ use Rattle.relay.specs.declared.Post.{Post}
 use Rattle.row.proofs.Held.{held-line}
 use Rattle.row.specs.Row.{most, lineOf, rowOf}
 use Rattle.row.specs.declared.Row.{Row}
-use Rattle.why.specs.Why.{so}
 
 -- the first n records of a list have none past them
 past-part : (l : List Post) (n i : ℕ) → n ≤ i → at (take n l) i ≡ blank
@@ -36,7 +34,6 @@ module _ (row : Row) (i : ℕ) where
   unfolding lineOf
   past-line h k = rw (le-leb (row .n) most h, past-part (row .posts) (row .n) i k)
 
--- a relay seen in the word of a post of a row that holds the line l is seen there in l
-pub seen : (n p : ℕ) (row : Row) (l : List Post) → length l ≤ most → row ≡ rowOf l → (w : ℕ) → w ≡ at (lineOf row) p .word → (b : Bool) → b ≡ so n w
-    → b ≡ so n (at l p .word)
-seen n p row l few e w f b g = g ∙ ap (so n) (f ∙ rw (e, held-line l few))
+-- the word of a post of a row that holds the line l is its word there
+pub held-word : (p : ℕ) (row : Row) (l : List Post) → length l ≤ most → row ≡ rowOf l → (w : ℕ) → w ≡ at (lineOf row) p .word → w ≡ at l p .word
+held-word p row l few e w f = f ∙ rw (e, held-line l few)

@@ -104,7 +104,7 @@ fn watch(
     let told = begun.told;
     let mut row = begun.row;
     let mut s = told.head;
-    let mut was = so(answer, word_at(row, place));
+    let mut was = word_at(row, place);
     let mut since: u32 = 0;
     let mut i: usize = 0;
     let mut here: u32 = 1;
@@ -117,8 +117,13 @@ fn watch(
         }
         row = done.row;
         s = got.head;
-        let is = so(answer, word_at(row, place));
-        since = later(was | (position <= here), is, here, since);
+        let is = word_at(row, place);
+        since = later(
+            so(answer, was) | (position <= here),
+            so(answer, is),
+            here,
+            since,
+        );
         was = is;
         i += 1;
         here += 1;

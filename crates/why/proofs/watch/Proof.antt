@@ -7,6 +7,7 @@ use mathlib.Core.List.{List, []}
 use native.Mathlib.Omega.{arith}
 use lib.ListN.{length, getD, take}
 use Rattle.relay.proofs.Truth.{equal-or-not}
+use Rattle.relay.specs.Posts.{at}
 use Rattle.row.proofs.Starts.{start-taken}
 use Rattle.row.specs.Row.{rowOf, stood}
 use Rattle.row.specs.declared.Stood.{Stood}
@@ -16,7 +17,7 @@ use Rattle.working.proofs.Begins.{few, row-next}
 use Rattle.working.proofs.Steps.{run-none, run-more}
 use Rattle.why.specs.Why.{stateAfter, soAfter, lastMade, rightAnswers, sinceWhen}
 use Rattle.why.proofs.Right.{Right, right-iff, wrong-at}
-use Rattle.why.proofs.Words.{seen}
+use Rattle.why.proofs.Words.{held-word}
 use Rattle.why.proofs.Watched.{upTo, none-yet, one-more, all-watched}
 use Rattle.relay.proofs.Tests.{tests}
 use Rattle.why.proofs.watch.Statement.{statement}
@@ -32,7 +33,7 @@ Inv-loop kinds stamp events answer place position row₀ s₀ was₀ since₀ i�
     × (here ≡ i + 1)
     × (row ≡ rowOf (stateAfter (said stamp kinds events) i .line))
     × (s ≡ stateAfter (said stamp kinds events) i .told .head)
-    × (was ≡ soAfter (said stamp kinds events) answer place i)
+    × (was ≡ at (stateAfter (said stamp kinds events) i .line) place .word)
     × (since ≡ lastMade (said stamp kinds events) answer place (upTo position i))
     × ((j : ℕ) → j < i → Right (begun kinds stamp) events j)
 
@@ -46,22 +47,19 @@ start-row-requires c κs = search tests
 word-at-requires : tie.Need-word-at-requires Inv-loop μ-loop
 word-at-requires c κs = search tests
 
-so-requires : tie.Need-so-requires Inv-loop μ-loop
-so-requires c κs = search tests
-
 loop-holds : tie.Need-loop-holds Inv-loop μ-loop
 loop-holds c =
-    let a = c .before .before .before .before .before .before .before .args in
-    let z = c .before .before .before .before .before .before .before .pre in
+    let a = c .before .before .before .before .before .before .args in
+    let z = c .before .before .before .before .before .before .pre in
     let b = begun (a .kinds .now) (a .stamp) in
-    let r = c .before .before .before .before .before .start-row .result in
-    let e = c .before .before .before .before .before .start-row .ensures ∙ start-taken (a .kinds .now) (a .stamp) (z .0) in
+    let r = c .before .before .before .before .start-row .result in
+    let e = c .before .before .before .before .start-row .ensures ∙ start-taken (a .kinds .now) (a .stamp) (z .0) in
     let row : r .row ≡ rowOf (run b [] .line) = rw (run-none b) (ap (λ (r : Stood). r .row) e) in (
       omega arith,
       refl,
       row,
       rw (run-none b) (ap (λ (r : Stood). r .told .head) e),
-      seen _ _ _ _ (few (a .kinds .now) (a .stamp) (z .0) []) row _ (c .before .word-at .ensures) _ (c .so .ensures),
+      held-word _ _ _ (few (a .kinds .now) (a .stamp) (z .0) []) row _ (c .word-at .ensures),
       none-yet (said (a .stamp) (a .kinds .now) (a .events .now)) _ _ _ (z .1),
       λ j h. absurd (omega arith),
     )
@@ -91,11 +89,11 @@ refuse-requires : tie.Need-refuse-requires Inv-loop μ-loop
 refuse-requires c κs = search tests
 
 -- the event taken in a turn is the run's next event
-turn : (c : tie.After-event-row Inv-loop μ-loop) → let l = c .before .before .before in let a = l .before .before .before .before .before .before .before .before .args in
+turn : (c : tie.After-event-row Inv-loop μ-loop) → let l = c .before .before .before in let a = l .before .before .before .before .before .before .before .args in
     c .event-row .result ≡ stood (next (run (begun (a .kinds .now) (a .stamp)) (take (l .loop .i) (a .events .now))) (getD (a .events .now) (l .loop .i) []) .told) (rowOf (next (run (begun (a .kinds .now) (a .stamp)) (take (l .loop .i) (a .events .now))) (getD (a .events .now) (l .loop .i) []) .line))
 turn c =
     let l = c .before .before .before in
-    let u = l .before .before .before .before .before .before .before .before in
+    let u = l .before .before .before .before .before .before .before in
     let a = u .args in
     c .event-row .ensures
     ∙ rw (l .loop .inv .2, l .loop .inv .3) (row-next (a .kinds .now) (a .stamp) (u .pre .0) (take (l .loop .i) (a .events .now)) (getD (a .events .now) (l .loop .i) []) _ _ _)
@@ -104,7 +102,7 @@ returns : tie.Need-returns Inv-loop μ-loop
 unfolding sinceWhen
 returns c =
     let l = c .before .before .before .before .before .before .before in
-    let a = l .before .before .before .before .before .before .before .before .args in
+    let a = l .before .before .before .before .before .before .before .args in
     let b = begun (a .kinds .now) (a .stamp) in
     let wrong : rightAnswers b (a .events .now) ≡ false =
     wrong-at b (a .events .now) (l .loop .i) (c .before .before .before .before .before .before .loop-test .taken) (λ r. c .before .if1 .taken (ap (λ (x : Stood). x .told .answer) (turn (c .before .before .before .before)) ∙ sym r)) in
@@ -112,6 +110,9 @@ returns c =
 
 word-at-requires-2 : tie.Need-word-at-requires-2 Inv-loop μ-loop
 word-at-requires-2 c κs = search tests
+
+so-requires : tie.Need-so-requires Inv-loop μ-loop
+so-requires c κs = search tests
 
 so-requires-2 : tie.Need-so-requires-2 Inv-loop μ-loop
 so-requires-2 c κs = search tests
@@ -130,31 +131,32 @@ loop-less c = search tests
 
 loop-again : tie.Need-loop-again Inv-loop μ-loop
 loop-again c =
-    let l = c .before .before .before .before .before .before .before .before .before .before .before in
-    let u = l .before .before .before .before .before .before .before .before in
+    let l = c .before .before .before .before .before .before .before .before .before .before .before .before in
+    let u = l .before .before .before .before .before .before .before in
     let a = u .args in
     let b = begun (a .kinds .now) (a .stamp) in
     let es = a .events .now in
     let i = l .loop .i in
-    let h : i < length es = c .before .before .before .before .before .before .before .before .before .before .loop-test .taken in
-    let e = turn (c .before .before .before .before .before .before .before .before) in
-    let row : c .before .before .before .before .before .before .before .before .event-row .result .row ≡ rowOf (run b (take (i + 1) es) .line) =
+    let h : i < length es = c .before .before .before .before .before .before .before .before .before .before .before .loop-test .taken in
+    let e = turn (c .before .before .before .before .before .before .before .before .before) in
+    let row : c .before .before .before .before .before .before .before .before .before .event-row .result .row ≡ rowOf (run b (take (i + 1) es) .line) =
     rw (run-more b es i h) (ap (λ (r : Stood). r .row) e) in
-    let is = seen _ _ _ _ (few (a .kinds .now) (a .stamp) (u .pre .0) (take (i + 1) es)) row _ (c .before .before .word-at2 .ensures) _ (c .before .so2 .ensures) in (
+    let is = held-word _ _ _ (few (a .kinds .now) (a .stamp) (u .pre .0) (take (i + 1) es)) row _ (c .before .before .before .word-at2 .ensures) in (
       omega arith,
       omega arith,
       row,
       rw (run-more b es i h) (ap (λ (r : Stood). r .told .head) e),
       is,
-      c .later .ensures ∙ rw (l .loop .inv .1, l .loop .inv .4, l .loop .inv .5, is) (one-more (said (a .stamp) (a .kinds .now) es) _ _ _ (u .pre .1) i),
-      λ j k. equal-or-not j i (λ q. rw q (sym (c .before .before .before .before .before .if1 .left) ∙ ap (λ (r : Stood). r .told .answer) e)) (λ q. l .loop .inv .6 j (omega arith)),
+      c .later .ensures
+          ∙ rw (c .before .before .so .ensures, c .before .so2 .ensures, l .loop .inv .1, l .loop .inv .4, l .loop .inv .5, is) (one-more (said (a .stamp) (a .kinds .now) es) _ _ _ (u .pre .1) i),
+      λ j k. equal-or-not j i (λ q. rw q (sym (c .before .before .before .before .before .before .if1 .left) ∙ ap (λ (r : Stood). r .told .answer) e)) (λ q. l .loop .inv .6 j (omega arith)),
     )
 
 returns-2 : tie.Need-returns-2 Inv-loop μ-loop
 unfolding sinceWhen
 returns-2 c =
     let l = c .before in
-    let u = l .before .before .before .before .before .before .before .before in
+    let u = l .before .before .before .before .before .before .before in
     let a = u .args in
     let right : rightAnswers (begun (a .kinds .now) (a .stamp)) (a .events .now) ≡ true =
     right-iff (begun (a .kinds .now) (a .stamp)) (a .events .now) .1 (λ j h. l .loop .inv .6 j (omega arith)) in
@@ -168,7 +170,6 @@ watch-spec =
     μ-loop
     start-row-requires
     word-at-requires
-    so-requires
     loop-holds
     mul-e
     shared-slice-copy-out-e
@@ -180,6 +181,7 @@ watch-spec =
     refuse-requires
     returns
     word-at-requires-2
+    so-requires
     so-requires-2
     later-requires
     add-i
