@@ -23,13 +23,13 @@ pub struct Since {
     pub position: u32,
 }
 
-fn refuse(number: u32, block: u32) -> Since
-    ensures { λ r. ⌜ r ≡ Why·since number block 0 ⌝ }
+fn tell(number: u32, block: u32, position: u32) -> Since
+    ensures { λ r. ⌜ r ≡ Why·since number block position ⌝ }
 {
     Since {
         number: number,
         block: block,
-        position: 0,
+        position: position,
     }
 }
 
@@ -113,26 +113,18 @@ fn watch(
         let done = row::event_row(row, s, e[0], e[1], e[3]);
         let got = done.told;
         if got.answer != e[2] {
-            return refuse(NO_SUCH_REFUSAL, 0);
+            return tell(NO_SUCH_REFUSAL, 0, 0);
         }
         row = done.row;
         s = got.head;
         let is = word_at(row, place);
-        since = later(
-            so(answer, was) | (position <= here),
-            so(answer, is),
-            here,
-            since,
-        );
+        let past = position <= here;
+        since = later(so(answer, was) | past, so(answer, is), here, since);
         was = is;
         i += 1;
         here += 1;
     }
-    Since {
-        number: 0,
-        block: 0,
-        position: since,
-    }
+    tell(0, 0, since)
 }
 
 // Since when what the refusal of the event at `position` says is so.
@@ -143,20 +135,20 @@ pub fn since_when(s: &[u8], position: u32) -> Since
     let mut events = [[0u32; 4]; MOST_ENTRIES];
     let found = sheet::read(s, &mut kinds, &mut events);
     if found.number != 0 {
-        return refuse(found.number, found.block);
+        return tell(found.number, found.block, 0);
     }
     let n = found.posts as usize;
     let m = found.events as usize;
     let k = position as usize;
     if k == 0 {
-        return refuse(NO_SUCH_REFUSAL, 0);
+        return tell(NO_SUCH_REFUSAL, 0, 0);
     }
     if m < k {
-        return refuse(NO_SUCH_REFUSAL, 0);
+        return tell(NO_SUCH_REFUSAL, 0, 0);
     }
     let e = events[k - 1];
     if !speaks(e[2]) {
-        return refuse(NO_SUCH_REFUSAL, 0);
+        return tell(NO_SUCH_REFUSAL, 0, 0);
     }
     watch(&kinds[..n], found.stamp, &events[..m], e[2], e[1], position)
 }

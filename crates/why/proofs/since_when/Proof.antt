@@ -51,15 +51,15 @@ slice-aggregate-read-2 c = search tests
 read-requires : tie.Need-read-requires
 read-requires c κs = search tests
 
-refuse-requires : tie.Need-refuse-requires
-refuse-requires c κs = search tests
+tell-requires : tie.Need-tell-requires
+tell-requires c κs = search tests
 
 returns : tie.Need-returns
 returns c =
     let s = c .before .before .before .before .before .before .before .before .before .args .s .now in
     let r = c .before .before .before .before .before .read in
     let b = bad s (r .result) (r .ensures .0) (c .before .if1 .taken) in
-    c .refuse .ensures ∙ rw (b .1) (since-unread s _ (b .0))
+    c .tell .ensures ∙ rw (b .1) (since-unread s _ (b .0))
 
 cast-n : tie.Need-cast-n
 cast-n c = search tests
@@ -67,21 +67,21 @@ cast-n c = search tests
 cast-m : tie.Need-cast-m
 cast-m c = search tests
 
-refuse-requires-2 : tie.Need-refuse-requires-2
-refuse-requires-2 c κs = search tests
+tell-requires-2 : tie.Need-tell-requires-2
+tell-requires-2 c κs = search tests
 
 returns-2 : tie.Need-returns-2
 returns-2 c =
     let e = c .before .before .before .before in
-    c .refuse2 .ensures ∙ since-not-asked (bytes e) _ (read-well e .0) (below-first (decode (bytes e)) _ (omega (arith, c .before .if2 .taken)))
+    c .tell2 .ensures ∙ since-not-asked (bytes e) _ (read-well e .0) (below-first (decode (bytes e)) _ (omega (arith, c .before .if2 .taken)))
 
-refuse-requires-3 : tie.Need-refuse-requires-3
-refuse-requires-3 c κs = search tests
+tell-requires-3 : tie.Need-tell-requires-3
+tell-requires-3 c κs = search tests
 
 returns-3 : tie.Need-returns-3
 returns-3 c =
     let e = c .before .before .before .before .before in
-    c .refuse3 .ensures ∙ since-not-asked (bytes e) _ (read-well e .0) (past-last (decode (bytes e)) _ (omega (arith, c .before .if3 .taken, count e)))
+    c .tell3 .ensures ∙ since-not-asked (bytes e) _ (read-well e .0) (past-last (decode (bytes e)) _ (omega (arith, c .before .if3 .taken, count e)))
 
 sub-e : tie.Need-sub-e
 sub-e c = search tests
@@ -105,15 +105,15 @@ chosen c =
 speaks-requires : tie.Need-speaks-requires
 speaks-requires c κs = search tests
 
-refuse-requires-4 : tie.Need-refuse-requires-4
-refuse-requires-4 c κs = search tests
+tell-requires-4 : tie.Need-tell-requires-4
+tell-requires-4 c κs = search tests
 
 returns-4 : tie.Need-returns-4
 returns-4 c =
     let l = c .before .before .before .before in
     let e = l .before .before .before .before in
     let a = sym (c .before .before .speaks .ensures) ∙ not-facts _ .0 (c .before .if4 .taken) in
-    c .refuse4 .ensures ∙ since-not-asked (bytes e) _ (read-well e .0) (other-answer (decode (bytes e)) _ (subst (λ (x : List ℕ). speaks (answerOf x) ≡ false) (chosen l) a))
+    c .tell4 .ensures ∙ since-not-asked (bytes e) _ (read-well e .0) (other-answer (decode (bytes e)) _ (subst (λ (x : List ℕ). speaks (answerOf x) ≡ false) (chosen l) a))
 
 array-share-prefix-kinds : tie.Need-array-share-prefix-kinds
 array-share-prefix-kinds c = kinds-read (c .before .before .before .before .before .before .before) .1
@@ -155,20 +155,20 @@ since-when-spec =
     slice-aggregate-read
     slice-aggregate-read-2
     read-requires
-    refuse-requires
+    tell-requires
     returns
     cast-n
     cast-m
-    refuse-requires-2
+    tell-requires-2
     returns-2
-    refuse-requires-3
+    tell-requires-3
     returns-3
     sub-e
     mul-e
     array-copy-out-e
     array-read-speaks
     speaks-requires
-    refuse-requires-4
+    tell-requires-4
     returns-4
     array-share-prefix-kinds
     slice-aggregate-watch

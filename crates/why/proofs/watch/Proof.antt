@@ -85,8 +85,8 @@ event-row-requires c κs = search tests
 array-read-if1 : tie.Need-array-read-if1 Inv-loop μ-loop
 array-read-if1 c = search tests
 
-refuse-requires : tie.Need-refuse-requires Inv-loop μ-loop
-refuse-requires c κs = search tests
+tell-requires : tie.Need-tell-requires Inv-loop μ-loop
+tell-requires c κs = search tests
 
 -- the event taken in a turn is the run's next event
 turn : (c : tie.After-event-row Inv-loop μ-loop) → let l = c .before .before .before in let a = l .before .before .before .before .before .before .before .args in
@@ -106,7 +106,7 @@ returns c =
     let b = begun (a .kinds .now) (a .stamp) in
     let wrong : rightAnswers b (a .events .now) ≡ false =
     wrong-at b (a .events .now) (l .loop .i) (c .before .before .before .before .before .before .loop-test .taken) (λ r. c .before .if1 .taken (ap (λ (x : Stood). x .told .answer) (turn (c .before .before .before .before)) ∙ sym r)) in
-    rw (c .refuse .ensures, wrong)
+    rw (c .tell .ensures, wrong)
 
 word-at-requires-2 : tie.Need-word-at-requires-2 Inv-loop μ-loop
 word-at-requires-2 c κs = search tests
@@ -152,15 +152,18 @@ loop-again c =
       λ j k. equal-or-not j i (λ q. rw q (sym (c .before .before .before .before .before .before .if1 .left) ∙ ap (λ (r : Stood). r .told .answer) e)) (λ q. l .loop .inv .6 j (omega arith)),
     )
 
+tell-requires-2 : tie.Need-tell-requires-2 Inv-loop μ-loop
+tell-requires-2 c κs = search tests
+
 returns-2 : tie.Need-returns-2 Inv-loop μ-loop
 unfolding sinceWhen
 returns-2 c =
-    let l = c .before in
+    let l = c .before .before in
     let u = l .before .before .before .before .before .before .before in
     let a = u .args in
     let right : rightAnswers (begun (a .kinds .now) (a .stamp)) (a .events .now) ≡ true =
     right-iff (begun (a .kinds .now) (a .stamp)) (a .events .now) .1 (λ j h. l .loop .inv .6 j (omega arith)) in
-    rw (right, l .loop .inv .5, all-watched (said (a .stamp) (a .kinds .now) (a .events .now)) 0 0 _ (u .pre .1) (l .loop .i) (omega arith))
+    c .tell2 .ensures ∙ rw (right, l .loop .inv .5, all-watched (said (a .stamp) (a .kinds .now) (a .events .now)) 0 0 _ (u .pre .1) (l .loop .i) (omega arith))
 
 pub watch-spec : {M : Type 1} → statement M
 watch-spec =
@@ -178,7 +181,7 @@ watch-spec =
     array-read-event-row-3
     event-row-requires
     array-read-if1
-    refuse-requires
+    tell-requires
     returns
     word-at-requires-2
     so-requires
@@ -188,4 +191,5 @@ watch-spec =
     add-here
     loop-less
     loop-again
+    tell-requires-2
     returns-2)
