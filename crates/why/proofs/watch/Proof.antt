@@ -2,11 +2,14 @@
 -- Assumes nothing.
 use Prim.Native.Nat.{ℕ, _+_, _-_, _≤_, _<_}
 use mathlib.Core.Path.{_≡_, refl, sym, ap, _∙_}
-use mathlib.Core.Bool.{true, false}
+use mathlib.Core.Bool.{true, false, not, _&&_, _||_}
 use mathlib.Core.List.{List, []}
+use native.Mathlib.Numerals.{add-one}
 use native.Mathlib.Omega.{arith}
+use lib.Dec.{leb}
 use lib.ListN.{length, getD, take}
 use Rattle.relay.proofs.Truth.{equal-or-not}
+use Rattle.relay.specs.Choice.{pick}
 use Rattle.relay.specs.Posts.{at}
 use Rattle.row.proofs.Starts.{start-taken}
 use Rattle.row.specs.Row.{rowOf, stood}
@@ -26,6 +29,13 @@ use Rattle.why.proofs.watch.Tie as tie
 -- the sheet that is worked
 abbrev said : ℕ → List ℕ → List (List ℕ) → Sheet
 said stamp kinds events = record { stamp = stamp; kinds = kinds; events = events }
+
+-- what one event more makes of the last that made it so
+last-more : (t : Sheet) (n p k i : ℕ) → 1 ≤ k
+    → pick (not (soAfter t n p i || leb k (i + 1)) && soAfter t n p (i + 1)) (i + 1) (lastMade t n p (upTo k i))
+    ≡ lastMade t n p (upTo k (i + 1))
+unfolding lastMade
+last-more t n p k i h = one-more (lastMade t n p) k h i (soAfter t n p i) (soAfter t n p (i + 1)) (rw (add-one i))
 
 abbrev Inv-loop : tie.InvT-loop
 Inv-loop kinds stamp events answer place position row₀ s₀ was₀ since₀ i₀ here₀ row s was since i here =
@@ -48,6 +58,7 @@ word-at-requires : tie.Need-word-at-requires Inv-loop μ-loop
 word-at-requires c κs = search tests
 
 loop-holds : tie.Need-loop-holds Inv-loop μ-loop
+unfolding lastMade
 loop-holds c =
     let a = c .before .before .before .before .before .before .args in
     let z = c .before .before .before .before .before .before .pre in
@@ -60,7 +71,7 @@ loop-holds c =
       row,
       rw (run-none b) (ap (λ (r : Stood). r .told .head) e),
       held-word _ _ _ (few (a .kinds .now) (a .stamp) (z .0) []) row _ (c .word-at .ensures),
-      none-yet (said (a .stamp) (a .kinds .now) (a .events .now)) _ _ _ (z .1),
+      none-yet (lastMade (said (a .stamp) (a .kinds .now) (a .events .now)) (a .answer) (a .place)) _ (z .1),
       λ j h. absurd (omega arith),
     )
 
@@ -148,7 +159,7 @@ loop-again c =
       rw (run-more b es i h) (ap (λ (r : Stood). r .told .head) e),
       is,
       c .later .ensures
-          ∙ rw (c .before .before .so .ensures, c .before .so2 .ensures, l .loop .inv .1, l .loop .inv .4, l .loop .inv .5, is) (one-more (said (a .stamp) (a .kinds .now) es) _ _ _ (u .pre .1) i),
+          ∙ rw (c .before .before .so .ensures, c .before .so2 .ensures, l .loop .inv .1, l .loop .inv .4, l .loop .inv .5, is) (last-more (said (a .stamp) (a .kinds .now) es) _ _ _ i (u .pre .1)),
       λ j k. equal-or-not j i (λ q. rw q (sym (c .before .before .before .before .before .before .if1 .left) ∙ ap (λ (r : Stood). r .told .answer) e)) (λ q. l .loop .inv .6 j (omega arith)),
     )
 
@@ -163,7 +174,7 @@ returns-2 c =
     let a = u .args in
     let right : rightAnswers (begun (a .kinds .now) (a .stamp)) (a .events .now) ≡ true =
     right-iff (begun (a .kinds .now) (a .stamp)) (a .events .now) .1 (λ j h. l .loop .inv .6 j (omega arith)) in
-    c .tell2 .ensures ∙ rw (right, l .loop .inv .5, all-watched (said (a .stamp) (a .kinds .now) (a .events .now)) 0 0 _ (u .pre .1) (l .loop .i) (omega arith))
+    c .tell2 .ensures ∙ rw (right, l .loop .inv .5, all-watched (lastMade (said (a .stamp) (a .kinds .now) (a .events .now)) (a .answer) (a .place)) _ (u .pre .1) (l .loop .i) (omega arith))
 
 pub watch-spec : {M : Type 1} → statement M
 watch-spec =
