@@ -1,4 +1,4 @@
--- The examples, computed whole: the paper's listing, its case 11, and one sheet each for 9 and for 13.
+-- The examples, computed whole: the paper's listing, its case 11, one section, a post between, and a sheet with an altered answer.
 -- Assumes nothing.
 use mathlib.Core.Path.{_≡_, refl}
 use mathlib.Core.List.{[], _∷_}
@@ -8,22 +8,10 @@ use Rattle.working.specs.Run.{run}
 use Rattle.why.specs.Examples.{answers, paperSheet, paperAsked, paperSince, caseSheet, caseSince, shortSheet, shortAsked, shortSince, longSheet, longAsked, longSince, alteredSheet, alteredSince}
 use Rattle.why.specs.Why.{speaks, so, lastMade, rightAnswers, asked, sinceWhen, sinceIn}
 
-pub paper-since : answers paperSheet paperAsked ≡ paperSince
+pub examples : (answers paperSheet paperAsked ≡ paperSince)
+    × (answers caseSheet (4 ∷ []) ≡ caseSince)
+    × (answers shortSheet shortAsked ≡ shortSince)
+    × (answers longSheet longAsked ≡ longSince)
+    × (answers alteredSheet (4 ∷ []) ≡ alteredSince)
 unfolding rules asListed run speaks so lastMade rightAnswers asked sinceWhen sinceIn
-paper-since = refl
-
-pub case-since : answers caseSheet (4 ∷ []) ≡ caseSince
-unfolding rules run speaks so lastMade rightAnswers asked sinceWhen sinceIn
-case-since = refl
-
-pub short-since : answers shortSheet shortAsked ≡ shortSince
-unfolding rules run speaks so lastMade rightAnswers asked sinceWhen sinceIn
-short-since = refl
-
-pub long-since : answers longSheet longAsked ≡ longSince
-unfolding rules run speaks so lastMade rightAnswers asked sinceWhen sinceIn
-long-since = refl
-
-pub altered-since : answers alteredSheet (4 ∷ []) ≡ alteredSince
-unfolding rules run speaks so lastMade rightAnswers asked sinceWhen sinceIn
-altered-since = refl
+examples = (refl, refl, refl, refl, refl)
