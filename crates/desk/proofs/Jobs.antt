@@ -4,6 +4,7 @@ use Prim.Native.Nat.{ℕ, _^_, _<_}
 use mathlib.Core.Path.{_≡_, refl}
 use mathlib.Core.Logic.{_↔_}
 use mathlib.Core.List.{List}
+use native.Mathlib.Omega.{arith}
 use borrow.Author.Tests.{lt-ltb, ltb-true, eqb-true}
 use lib.Dec.{eqb, ltb}
 use Rattle.relay.proofs.Truth.{by}
@@ -49,3 +50,20 @@ module _ (n : ℕ) (w a : List ℕ) where
   pub why-iff : (k : ℕ) → (jobOf n w a ≡ job.Why k) ↔ ((n ≡ 3) × (w ≡ whyWord) × (a ≡ digits k) × (k < 2 ^ 32))
   unfolding jobOf twoWords isWord
   why-iff k = (λ e. rw e at (asked-by n w a), λ h. rw (h .0, h .1, position-iff a k .1 (h .2, h .3)))
+
+  -- else the words ask for nothing
+  none-left : (j : Job) → jobOf n w a ≡ j → (AskedBy n w a job.List → ⊥) → (AskedBy n w a job.Work → ⊥) → ((k : ℕ) → AskedBy n w a (job.Why k) → ⊥) → j ≡ job.Unknown
+  none-left job.List e f g h = absurd (f (list-iff .0 e))
+  none-left job.Work e f g h = absurd (g (work-iff .0 e))
+  none-left (job.Why k) e f g h = absurd (h k (why-iff k .0 e))
+  none-left job.Unknown e f g h = refl
+
+  pub unknown-iff : (jobOf n w a ≡ job.Unknown) ↔ ((AskedBy n w a job.List → ⊥) × (AskedBy n w a job.Work → ⊥) × ((k : ℕ) → AskedBy n w a (job.Why k) → ⊥))
+  unknown-iff = (
+    λ e. (
+      λ h. let z : _≡_ {A = ℕ} 0 1 = cc (list-iff .1 h) in omega arith,
+      λ h. let z : _≡_ {A = ℕ} 0 1 = cc (work-iff .1 h) in omega arith,
+      λ k h. let z : _≡_ {A = ℕ} 0 1 = cc (why-iff k .1 h) in omega arith,
+    ),
+    λ h. none-left (jobOf n w a) refl (h .0) (h .1) (h .2),
+  )
