@@ -93,12 +93,14 @@ fn say_since(position: u32) {
     stream::print(&line[..m]);
 }
 
+// Says on standard error that the sheet is refused.
 fn tell_refused(number: u32, block: u32) {
     let mut line = [0u8; listing::LINE];
     let m = listing::refused_line(&mut line, number, block);
     stream::write_whole(STDERR_FILENO, &line[..m]);
 }
 
+// Says on standard error, in one line, what the words may be.
 fn tell_usage() {
     stream::write_whole(STDERR_FILENO, b"usage: desk [work | why POSITION] <SHEET\n");
 }
@@ -112,6 +114,7 @@ fn asked() -> Job {
     words::job_of(os::arg_count(), &word[..n], &after[..m])
 }
 
+// One line for each job: a job more is a line here, its words in `words` and a function above.
 fn main() {
     match asked() {
         Job::List => list_sheet(),
