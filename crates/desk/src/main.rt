@@ -1,8 +1,18 @@
-// Works the sheet on standard input and prints its listing. 01, 'The program and one listing'.
-// Where a read fails it prints nothing, and says so on standard error.
+// The desk's program: does what its words ask for with the sheet on standard input. 01, 'The program and one listing'; 02, item 1.
+ghost use lib.ListN.{length};
+ghost use Rattle.stream.specs.Steps.{Within};
+
+mod since;
+mod words;
+
+use libc::STDERR_FILENO;
 use libc::STDIN_FILENO;
 use sheet::layout::MOST_BYTES;
 use stream::Reading;
+use words::Job;
+
+// Room for the longest word that asks for anything: `os` gives a longer one as it gives an empty one.
+const WORD: usize = 16;
 
 // One byte more than the longest sheet: an input that fills it is longer than any.
 const ROOM: usize = MOST_BYTES + 1;
@@ -31,17 +41,85 @@ fn drain(n: usize) -> bool {
     true
 }
 
-fn main() {
-    let mut s = [0u8; ROOM];
-    let mut page = [0u8; listing::PAGE];
-    let Reading::Whole(n) = stream::read_whole(STDIN_FILENO, &mut s) else {
+// Reads the whole input, or says on standard error that it could not be read.
+fn read_input(room: &mut [u8; ROOM]) -> Reading
+    ensures { λ r. ⌜ Within (length (now (room .exit))) r ⌝ }
+{
+    let Reading::Whole(n) = stream::read_whole(STDIN_FILENO, room) else {
         stream::tell_unread();
-        return;
+        return Reading::Failed;
     };
     if !drain(n) {
         stream::tell_unread();
-        return;
+        return Reading::Failed;
     }
+    Reading::Whole(n)
+}
+
+// Prints the listing of the sheet.
+fn list_sheet() {
+    let mut s = [0u8; ROOM];
+    let mut page = [0u8; listing::PAGE];
+    let Reading::Whole(n) = read_input(&mut s) else {
+        return;
+    };
     let m = listing::list(&s[..n], &mut page);
     stream::print(&page[..m]);
+}
+
+// Prints the worked sheet's bytes. A refusal is told on standard error, so that none ends up inside a sheet.
+fn work_sheet() {
+    let mut s = [0u8; ROOM];
+    let mut out = [0u8; MOST_BYTES];
+    let Reading::Whole(n) = read_input(&mut s) else {
+        return;
+    };
+    let done = working::work(&s[..n], &mut out);
+    if done.number != 0 {
+        tell_refused(done.number, done.block);
+        return;
+    }
+    stream::print(&out[..n]);
+}
+
+// Prints since when the refusal of the event at `position` holds.
+fn say_since(position: u32) {
+    let mut s = [0u8; ROOM];
+    let mut line = [0u8; listing::LINE];
+    let Reading::Whole(n) = read_input(&mut s) else {
+        return;
+    };
+    let m = since::since_text(&s[..n], position, &mut line);
+    stream::print(&line[..m]);
+}
+
+// Says on standard error that the sheet is refused.
+fn tell_refused(number: u32, block: u32) {
+    let mut line = [0u8; listing::LINE];
+    let m = listing::refused_line(&mut line, number, block);
+    stream::write_whole(STDERR_FILENO, &line[..m]);
+}
+
+// Says on standard error, in one line, what the words may be.
+fn tell_usage() {
+    stream::write_whole(STDERR_FILENO, b"usage: desk [work | why POSITION] <SHEET\n");
+}
+
+// The job that the program's words ask for.
+fn asked() -> Job {
+    let mut word = [0u8; WORD];
+    let mut after = [0u8; WORD];
+    let n = os::arg(1, &mut word);
+    let m = os::arg(2, &mut after);
+    words::job_of(os::arg_count(), &word[..n], &after[..m])
+}
+
+// One line for each job: a job more is a line here, its words in `words` and a function above.
+fn main() {
+    match asked() {
+        Job::List => list_sheet(),
+        Job::Work => work_sheet(),
+        Job::Why(position) => say_since(position),
+        Job::Unknown => tell_usage(),
+    }
 }

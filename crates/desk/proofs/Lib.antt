@@ -1,0 +1,4 @@
+pub mod Position
+pub mod Same
+pub mod Jobs
+pub mod Texts

@@ -1,0 +1,68 @@
+-- The words that the program is started with, and the job that they ask for: `desk`, `desk work`, `desk why POSITION`.
+-- That a position is read exactly where the listing would write it so stands in proofs/Position.antt.
+-- Assumes nothing.
+use Prim.Native.Nat.{ℕ, _+_, _-_, _*_, _^_}
+use mathlib.Core.Bool.{Bool, true, false, _&&_}
+use mathlib.Core.List.{List, [], _∷_}
+use lib.Dec.{eqb, leb, ltb}
+use Rattle.relay.specs.Choice.{pick}
+use Rattle.desk.specs.declared.words.Position.{Position}
+use Rattle.desk.specs.declared.words.Position.the-variants.{Is, Wrong}
+use Rattle.desk.specs.declared.words.Job.{Job}
+use Rattle.desk.specs.declared.words.Job.the-variants as job
+
+-- ---- a position: 'numbers have no leading zeros'
+-- '0' is 48, '9' is 57
+unfoldable pub isDigit : ℕ → Bool
+isDigit b = leb 48 b && leb b 57
+
+-- the number n with one digit more: none follows a 0, and it stays a number of 32 bits
+unfoldable pub withDigit : ℕ → ℕ → Position
+withDigit n b =
+    pick (eqb n 0) Wrong
+    (pick (isDigit b) (pick (ltb (n * 10 + (b - 48)) (2 ^ 32)) (Is (n * 10 + (b - 48))) Wrong) Wrong)
+
+-- what is said of a text that goes on
+abbrev pub onward : Position → (ℕ → Position) → Position
+onward Wrong f = Wrong
+onward (Is n) f = f n
+
+-- the bytes bs after the digits of the number n
+unfoldable pub further : List ℕ → ℕ → Position
+further [] n = Is n
+further (b ∷ bs) n = onward (withDigit n b) (further bs)
+
+unfoldable pub positionOf : List ℕ → Position
+positionOf [] = Wrong
+positionOf (b ∷ bs) = pick (isDigit b) (further bs (b - 48)) Wrong
+
+-- ---- the words
+unfoldable pub isWord : List ℕ → List ℕ → Bool
+isWord [] [] = true
+isWord (x ∷ xs) (y ∷ ys) = eqb x y && isWord xs ys
+isWord [] (y ∷ ys) = false
+isWord (x ∷ xs) [] = false
+
+abbrev pub workWord : List ℕ
+workWord = 119 ∷ 111 ∷ 114 ∷ 107 ∷ []
+
+abbrev pub whyWord : List ℕ
+whyWord = 119 ∷ 104 ∷ 121 ∷ []
+
+-- ---- what is asked for
+abbrev pub whyAt : Position → Job
+whyAt (Is n) = job.Why n
+whyAt Wrong = job.Unknown
+
+-- a word alone
+unfoldable pub oneWord : List ℕ → Job
+oneWord w = pick (isWord w workWord) job.Work job.Unknown
+
+-- a word and one after it
+unfoldable pub twoWords : List ℕ → List ℕ → Job
+twoWords w a = pick (isWord w whyWord) (whyAt (positionOf a)) job.Unknown
+
+-- by how many arguments there are, the program's own name among them, and by the words after it
+unfoldable pub jobOf : ℕ → List ℕ → List ℕ → Job
+jobOf n w a =
+    pick (ltb n 2) job.List (pick (eqb n 2) (oneWord w) (pick (eqb n 3) (twoWords w a) job.Unknown))
