@@ -1,19 +1,15 @@
 -- The text of a question by its outcomes, and that the event it names is one of the sheet's.
 -- Assumes nothing.
-use Prim.Native.Nat.{ℕ, zero, suc, _-_, _^_, _≤_, _<_}
+use Prim.Native.Nat.{ℕ, _-_, _^_, _≤_, _<_}
 use mathlib.Core.Path.{_≡_, refl, sym, ap, _∙_}
 use mathlib.Core.Logic.{_↔_}
-use mathlib.Core.Bool.{true, not, _&&_}
 use mathlib.Core.List.{List, [], _∷_}
 use native.Mathlib.Omega.{arith}
-use borrow.Author.Tests.{eq-eqb, ne-eqb, eqb-true, eqb-false, leb-true}
-use lib.Dec.{leb}
+use borrow.Author.Tests.{eq-eqb, ne-eqb, eqb-false}
 use lib.ListN.{length, getD, List·getD-append}
-use Rattle.relay.proofs.Truth.{and-facts, by, split, equal-or-not}
+use Rattle.relay.proofs.Truth.{equal-or-not}
 use Rattle.sheet.proofs.Rooms.{events-long, entries-few}
-use Rattle.sheet.specs.Entry.{answerOf, postOf}
-use Rattle.sheet.specs.Reading.{accepted, verdictOf, decode, found, handed, readOf}
-use Rattle.sheet.specs.Sheet.{Sheet}
+use Rattle.sheet.specs.Reading.{verdictOf, decode, found, handed, readOf}
 use Rattle.sheet.specs.declared.Found.{Found}
 use Rattle.working.proofs.Works.{bad, good}
 use Rattle.listing.proofs.Spaces.{spaced-none}
@@ -21,7 +17,8 @@ use Rattle.listing.proofs.Value.{digits-one, no-leading-zero}
 use Rattle.listing.specs.Digits.{digits}
 use Rattle.listing.specs.Lines.{ended, eventLine, refusedLine}
 use Rattle.why.proofs.Asked.{events-front, event-read}
-use Rattle.why.specs.Why.{eventAt, speaks, soAfter, lastMade, asWorked, asked, sinceWhen, sinceIn, sinceOf}
+use Rattle.why.proofs.Named.{answerable, since-within}
+use Rattle.why.specs.Why.{eventAt, sinceOf}
 use Rattle.why.specs.declared.Since.{Since}
 use Rattle.desk.specs.Text.{startLine, eventText, answerText, sinceText}
 
@@ -47,52 +44,19 @@ event-other k e p r h l q =
     not-empty (x ∷ t) h = omega arith
 
 -- ---- the event that is named
--- of the first i events
-last-within : (t : Sheet) (n p i : ℕ) → lastMade t n p i ≤ i
-unfolding lastMade
-last-within t n p zero = omega arith
-last-within t n p (suc i) =
-    by (λ (k : ℕ). k ≤ suc i) (not (soAfter t n p i) && soAfter t n p (suc i)) (λ e. omega arith) (λ e. omega (arith, last-within t n p i))
-
-asked-within : (t : Sheet) (k : ℕ) → asked t k ≡ true → k ≤ length (t .events)
-unfolding asked
-asked-within t k e =
-    let f = and-facts (leb 1 k) (leb k (length (t .events)) && speaks (answerOf (eventAt t k))) .0 e in
-    leb-true k (length (t .events)) (and-facts (leb k (length (t .events))) (speaks (answerOf (eventAt t k))) .0 (f .1) .0)
-
--- of a good sheet's
-in-within : (t : Sheet) (k : ℕ) → sinceIn t k .position ≤ length (t .events)
-unfolding sinceIn sinceWhen
-in-within t k =
-    split (asked t k)
-    (λ a. split (asWorked t)
-    (λ w. rw (a, w) (omega (arith, asked-within t k a, last-within t (answerOf (eventAt t k)) (postOf (eventAt t k)) (k - 1))))
-    (λ w. rw (a, w) (omega arith)))
-    (λ a. rw a (omega arith))
-
 -- an accepted sheet read into room for any
 read-again : (s : List ℕ) (f : Found) → f ≡ readOf s 32 3780 → verdictOf s .number ≡ 0 → f ≡ found (decode s)
 read-again s f e z =
     equal-or-not (f .number) 0 (λ q. good s f e q .1) (λ q. absurd (eqb-false (verdictOf s .number) 0 (bad s f e q .0) z))
 
 module _ (s : List ℕ) (k : ℕ) where
-  -- of any sheet's
-  of-within : sinceOf s k .position ≤ length (decode s .events)
-  unfolding sinceOf
-  of-within = split (accepted s) (λ a. rw a (in-within (decode s) k)) (λ a. rw a (omega arith))
-
-  of-accepted : sinceOf s k .number ≡ 0 → verdictOf s .number ≡ 0
-  unfolding sinceOf
-  of-accepted z =
-      split (accepted s) (λ a. eqb-true (verdictOf s .number) 0 a) (λ a. absurd (eqb-false (verdictOf s .number) 0 a (rw a at z)))
-
   module _ (r : Since) (e : r ≡ sinceOf s k) where
-    pub since-within : r .position ≤ length (decode s .events)
-    since-within = rw e of-within
-
-    -- no refusal: the sheet is accepted
-    pub since-accepted : r .number ≡ 0 → verdictOf s .number ≡ 0
-    since-accepted z = of-accepted (sym (ap (λ (x : Since). x .number) e) ∙ z)
+    -- no refusal: the sheet is accepted, and the event is one of it
+    named-in : r .number ≡ 0 → (verdictOf s .number ≡ 0) × (r .position ≤ length (decode s .events))
+    named-in z =
+        let y = sym (ap (λ (x : Since). x .number) e) ∙ z in
+        let w = since-within s k y in
+        (answerable s k y .read, rw e (omega (arith, w .0, w .1)))
 
     -- ---- the outcomes
     pub text-refused : (r .number ≡ 0 → ⊥) → sinceText s k ≡ refusedLine (r .number) (r .block)
@@ -110,15 +74,15 @@ module _ (s : List ℕ) (k : ℕ) where
       text-event = rw (← e, eq-eqb (r .number) 0 z, ne-eqb (r .position) 0 p)
 
       pub named-few : r .position - 1 < 3780
-      named-few = omega (arith, since-within, events-long s, entries-few s (since-accepted z))
+      named-few = omega (arith, named-in z .1, events-long s, entries-few s (named-in z .0))
 
       -- reading the sheet again, into room for any, hands it out
       pub named-read : (f : Found) → f ≡ readOf s 32 3780 → (room room′ : List (List ℕ)) → room′ ≡ handed f (decode s .events) room
           → getD room′ (r .position - 1) [] ≡ eventAt (decode s) (r .position)
       named-read f g room room′ h =
-          let found-it = read-again s f g (since-accepted z) in
+          let found-it = read-again s f g (named-in z .0) in
           let count = ap (λ (x : Found). x .events) found-it in
-          event-read room′ (decode s .events) (f .events) (r .position) (events-front f (decode s) found-it room room′ h .0) (omega (arith, since-within, count))
+          event-read room′ (decode s .events) (f .events) (r .position) (events-front f (decode s) found-it room room′ h .0) (omega (arith, named-in z .1, count))
 
 only-start : (s : List ℕ) (k : ℕ) (r : Since) → r ≡ sinceOf s k → sinceText s k ≡ startLine → (r .number ≡ 0) × (r .position ≡ 0)
 only-start s k r e t =

@@ -14,7 +14,7 @@ use Rattle.relay.proofs.Truth.{or-facts, equal-or-not}
 use Rattle.relay.proofs.Word.{relays}
 use Rattle.relay.specs.Answers.{lDown, rlDown, rlUp}
 use Rattle.relay.specs.Kinds.{blocksAtPedal}
-use Rattle.relay.specs.Line.{After, neighbour, eventOf}
+use Rattle.relay.specs.Line.{neighbour, eventOf}
 use Rattle.relay.specs.Posts.{at}
 use Rattle.relay.specs.Relays.{L, RL, W314, W241, up}
 use Rattle.relay.specs.declared.Head.{Head}

@@ -2,9 +2,9 @@
 -- It holds because from a state in which it is so one can go back, event by event, to the last before which it was not.
 -- Assumes nothing.
 use Prim.Native.Nat.{ℕ, zero, suc, _-_, _≤_, _<_}
-use mathlib.Core.Path.{_≡_, refl, sym, subst, _∙_}
+use mathlib.Core.Path.{_≡_, refl, sym, _∙_}
 use mathlib.Core.Logic.{_⊎_, inl, inr, ⊎-elim}
-use mathlib.Core.Bool.{Bool, true, false, false≢true}
+use mathlib.Core.Bool.{true, false, false≢true}
 use native.Mathlib.Omega.{arith}
 use Rattle.relay.proofs.Truth.{split, equal-or-not, least-or-below}
 use Rattle.sheet.specs.Sheet.{Sheet}

@@ -7,10 +7,10 @@
 use Prim.Native.Nat.{ℕ, suc, _+_, _-_, _≤_, _<_}
 use mathlib.Core.Path.{_≡_, refl, sym, ap, subst, _∙_}
 use mathlib.Core.Logic.{_↔_, _⊎_, inl, inr, ⊎-elim}
-use mathlib.Core.Bool.{Bool, true, false, false≢true, _||_}
-use mathlib.Core.List.{List, []}
+use mathlib.Core.Bool.{true, false≢true, _||_}
+use mathlib.Core.List.{List}
 use native.Mathlib.Omega.{arith}
-use borrow.Author.Tests.{eq-eqb, ne-eqb, eqb-true, eqb-false}
+use borrow.Author.Tests.{ne-eqb, eqb-true, eqb-false}
 use lib.Dec.{eqb}
 use lib.ListN.{length, take}
 use Rattle.relay.proofs.Frame.{answer-is, refused-alters-nothing}
@@ -25,12 +25,12 @@ use Rattle.sheet.specs.Sheet.{Sheet}
 use Rattle.sheet.specs.declared.Verdict.{Verdict}
 use Rattle.working.proofs.Steps.{run-more}
 use Rattle.working.specs.Run.{begun, next, run}
-use Rattle.why.specs.Why.{noSuchRefusal, eventAt, stateAfter, speaks, so, soAfter, lastMade, asWorked, since, sinceWhen, sinceOf}
+use Rattle.why.specs.Why.{eventAt, stateAfter, speaks, so, soAfter, lastMade, asWorked, since, sinceWhen, sinceOf}
 use Rattle.why.specs.declared.Since.{Since}
 use Rattle.why.proofs.Asked.{below-first, past-last, other-answer, is-asked, since-unread, since-not-asked, since-not-worked, since-in}
 use Rattle.why.proofs.Cause.{Cause, cause}
 use Rattle.why.proofs.Made.{Made, Always, only-one, not-always, last-made}
-use Rattle.why.proofs.Right.{Right, right-iff, wrong-at, wrong-some}
+use Rattle.why.proofs.Right.{right-iff, wrong-at, wrong-some}
 use Rattle.why.proofs.Says.{Says, says}
 use Rattle.why.proofs.Start.{at-start}
 
@@ -265,6 +265,12 @@ named-event s k z f =
     let a = answerable s k z in
     let e : sinceOf s k .position ≡ lastMade (decode s) (n s k a) (p s k a) (k - 1) = ap (λ (v : Since). v .position) (answer-is-last s k a) in
     ⊎-elim (λ g. absurd (f (e ∙ g .0))) (λ m. rw e (reason s k (lastMade (decode s) (n s k a) (p s k a) (k - 1)) a m)) (start-or-made s k a)
+
+-- it is one of the sheet's events, before the chosen one
+pub since-within : (s : List ℕ) (k : ℕ) → sinceOf s k .number ≡ 0 → (sinceOf s k .position < k) × (k ≤ length (decode s .events))
+since-within s k z =
+    let a = answerable s k z in
+    (equal-or-not (sinceOf s k .position) 0 (λ e. omega (arith, e, a .least)) (λ e. named-event s k z e .made-it .earlier), a .most)
 
 -- only one position fits that
 pub only-named : (s : List ℕ) (k j : ℕ) → sinceOf s k .number ≡ 0 → MadeIt s k j → sinceOf s k .position ≡ j

@@ -1,6 +1,6 @@
 -- The watch over a relay, one event more: what stands up to the chosen event is the last event before it that made it so.
 -- Assumes nothing.
-use Prim.Native.Nat.{ℕ, suc, _+_, _-_, _≤_, _<_}
+use Prim.Native.Nat.{ℕ, suc, _+_, _-_, _≤_}
 use mathlib.Core.Path.{_≡_, sym}
 use mathlib.Core.Bool.{Bool, not, _&&_, _||_, or-true, or-false}
 use native.Mathlib.Numerals.{add-one}

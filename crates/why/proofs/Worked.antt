@@ -1,9 +1,9 @@
 -- A worked sheet can be asked about: its answers are right; and a sheet has right answers exactly when working its events gives that sheet again, byte for byte.
 -- Assumes nothing.
-use Prim.Native.Nat.{ℕ, zero, suc, _<_}
+use Prim.Native.Nat.{ℕ, suc, _<_}
 use mathlib.Core.Path.{_≡_, refl, sym, ap, subst, _∙_}
 use mathlib.Core.Logic.{_↔_}
-use mathlib.Core.Bool.{true, false, false≢true}
+use mathlib.Core.Bool.{true}
 use mathlib.Core.List.{List, [], _∷_}
 use native.Mathlib.Omega.{arith}
 use borrow.Author.Tests.{eq-eqb, eqb-true}
@@ -21,7 +21,7 @@ use Rattle.sheet.specs.Sheet.{Sheet, encode}
 use Rattle.working.proofs.Twice.{worked-writable}
 use Rattle.working.specs.Run.{begun, next, answeredBy, answered}
 use Rattle.working.specs.Working.{worked}
-use Rattle.why.specs.Why.{noSuchRefusal, rightAnswers, asWorked, asked, since, sinceWhen, sinceIn, sinceOf}
+use Rattle.why.specs.Why.{noSuchRefusal, rightAnswers, asWorked, asked, sinceWhen, sinceOf}
 use Rattle.why.specs.declared.Since.{Since}
 use Rattle.why.proofs.Asked.{since-in, since-not-asked}
 
