@@ -2,3 +2,4 @@ pub mod Position
 pub mod Same
 pub mod Jobs
 pub mod Texts
+pub mod Piped
