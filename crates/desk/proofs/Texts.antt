@@ -11,12 +11,12 @@ use Rattle.relay.proofs.Truth.{equal-or-not}
 use Rattle.sheet.proofs.Rooms.{events-long, entries-few}
 use Rattle.sheet.specs.Reading.{verdictOf, decode, found, handed, readOf}
 use Rattle.sheet.specs.declared.Found.{Found}
-use Rattle.working.proofs.Works.{bad, good}
+use Rattle.working.proofs.Works.{front, bad, good}
 use Rattle.listing.proofs.Spaces.{spaced-none}
 use Rattle.listing.proofs.Value.{digits-one, no-leading-zero}
 use Rattle.listing.specs.Digits.{digits}
 use Rattle.listing.specs.Lines.{ended, eventLine, refusedLine}
-use Rattle.why.proofs.Asked.{events-front, event-read}
+use Rattle.why.proofs.Asked.{event-read}
 use Rattle.why.proofs.Named.{answerable, since-within}
 use Rattle.why.specs.Why.{eventAt, sinceOf}
 use Rattle.why.specs.declared.Since.{Since}
@@ -82,7 +82,7 @@ module _ (s : List ℕ) (k : ℕ) where
       named-read f g room room′ h =
           let found-it = read-again s f g (named-in z .0) in
           let count = ap (λ (x : Found). x .events) found-it in
-          event-read room′ (decode s .events) (f .events) (r .position) (events-front f (decode s) found-it room room′ h .0) (omega (arith, named-in z .1, count))
+          event-read room′ (decode s .events) (f .events) (r .position) (front f (ap (λ (x : Found). x .number) found-it) _ _ room room′ count h .0) (omega (arith, named-in z .1, count))
 
 only-start : (s : List ℕ) (k : ℕ) (r : Since) → r ≡ sinceOf s k → sinceText s k ≡ startLine → (r .number ≡ 0) × (r .position ≡ 0)
 only-start s k r e t =

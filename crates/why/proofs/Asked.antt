@@ -1,19 +1,17 @@
 -- The answer to a question by its outcomes: refused as reading refuses, refused for what is asked, or as the watch over the run says.
 -- Assumes nothing.
 use Prim.Native.Nat.{ℕ, _-_, _≤_, _<_}
-use mathlib.Core.Path.{_≡_, refl, sym, ap, _∙_}
+use mathlib.Core.Path.{_≡_, sym, ap, _∙_}
 use mathlib.Core.Bool.{true, false, and-false}
 use mathlib.Core.List.{List, []}
-use native.Mathlib.Omega.{arith}
 use borrow.Author.Tests.{eq-eqb, le-leb, lt-leb}
 use lib.Dec.{leb}
-use lib.ListN.{length, getD, take, length-append}
-use lib.Seq.{getD-take, take-at}
+use lib.ListN.{length, getD, take}
+use lib.Seq.{getD-take}
 use Rattle.relay.proofs.Truth.{split}
 use Rattle.sheet.specs.Entry.{postOf, answerOf}
-use Rattle.sheet.specs.Reading.{accepted, verdictOf, decode, found, handed}
+use Rattle.sheet.specs.Reading.{accepted, verdictOf, decode}
 use Rattle.sheet.specs.Sheet.{Sheet}
-use Rattle.sheet.specs.declared.Found.{Found}
 use Rattle.why.specs.Why.{noSuchRefusal, eventAt, speaks, asWorked, asked, since, sinceWhen, sinceIn, sinceOf}
 
 -- ---- what is asked
@@ -63,15 +61,6 @@ module _ (s : List ℕ) (k : ℕ) where
         → stamp ≡ decode s .stamp → kinds ≡ decode s .kinds → events ≡ decode s .events → e ≡ eventAt (decode s) k
         → sinceWhen (record { stamp = stamp; kinds = kinds; events = events }) (answerOf e) (postOf e) k ≡ sinceOf s k
     since-asked h stamp kinds events e f g i j = rw (f, g, i, j) (since-in h)
-
--- ---- what reading leaves in both rooms
-module _ (r : Found) (t : Sheet) (e : r ≡ found t) where
-  -- the kinds and the events stand at the front
-  pub kinds-front : (room room′ : List ℕ) → room′ ≡ handed r (t .kinds) room → (take (r .posts) room′ ≡ t .kinds) × (r .posts ≤ length room′)
-  kinds-front room room′ f = rw (f, e) (take-at _ _ _ refl, simp length-append (omega arith))
-
-  pub events-front : (room room′ : List (List ℕ)) → room′ ≡ handed r (t .events) room → (take (r .events) room′ ≡ t .events) × (r .events ≤ length room′)
-  events-front room room′ f = rw (f, e) (take-at _ _ _ refl, simp length-append (omega arith))
 
 -- an event of the first m of a room is that of the list that these are
 pub event-read : (room es : List (List ℕ)) (m k : ℕ) → take m room ≡ es → k - 1 < m → getD room (k - 1) [] ≡ getD es (k - 1) []

@@ -7,7 +7,8 @@ use mathlib.Core.List.{List, [], _∷_, _++_}
 use native.Mathlib.Omega.{arith}
 use borrow.Author.Tests.{eq-eqb, ne-eqb, le-leb, lt-leb, lt-ltb, le-ltb, eqb-true, eqb-false, ltb-true}
 use lib.Dec.{eqb, leb, ltb}
-use lib.ListN.{length, drop, replicate, length-replicate}
+use lib.ListN.{length, take, drop, replicate, length-append, length-replicate}
+use lib.Seq.{take-at}
 use Rattle.relay.proofs.Frame.{answer-is, answer-small}
 use Rattle.relay.proofs.Truth.{and-facts}
 use Rattle.relay.specs.Kinds.{tableOk}
@@ -20,7 +21,7 @@ use Rattle.sheet.proofs.Tabs.{getD-tab}
 use Rattle.sheet.specs.Entry.{numberOf, postOf, answerOf, stampOf, inFields}
 use Rattle.sheet.specs.Check.{word}
 use Rattle.sheet.specs.Layout.{perBlock, contentsWrong, roomShort}
-use Rattle.sheet.specs.Reading.{accepted, verdict, verdictOf, entriesIn, entryIn, decode, refused, found, readOf}
+use Rattle.sheet.specs.Reading.{accepted, verdict, verdictOf, entriesIn, entryIn, decode, refused, found, handed, readOf}
 use Rattle.sheet.specs.Sheet.{Sheet, encode}
 use Rattle.sheet.specs.Writing.{allInFields, bytesFor, writeNumber, written, Writes}
 use Rattle.sheet.specs.declared.Found.{Found}
@@ -33,6 +34,11 @@ use Rattle.working.proofs.Steps.{answered-long}
 -- what a refusal returns
 abbrev pub no : Verdict → Worked
 no v = record { number = v .number; block = v .block; row = rowOf []; head = head 0 0 }
+
+-- what reading hands out stands at the front of its room: n of xs, kinds or events
+pub front : {X : Type 0} (r : Found) → r .number ≡ 0 → (n : ℕ) (xs room room′ : List X) → n ≡ length xs → room′ ≡ handed r xs room
+    → (take n room′ ≡ xs) × (n ≤ length room′)
+front r z n xs room room′ l f = rw (f, eq-eqb (r .number) 0 z, l) (take-at _ _ _ refl, simp length-append (omega arith))
 
 module _ (s : List ℕ) where
   -- ---- reading with room for any sheet

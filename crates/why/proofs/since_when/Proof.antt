@@ -13,9 +13,9 @@ use Rattle.sheet.proofs.Rooms.{events-long, entries-few}
 use Rattle.sheet.specs.Entry.{answerOf}
 use Rattle.sheet.specs.Reading.{verdictOf, decode, found}
 use Rattle.sheet.specs.declared.Found.{Found}
-use Rattle.working.proofs.Works.{bad, good, said-table}
+use Rattle.working.proofs.Works.{front, bad, good, said-table}
 use Rattle.why.specs.Why.{eventAt, speaks}
-use Rattle.why.proofs.Asked.{below-first, past-last, other-answer, is-asked, since-unread, since-not-asked, since-asked, kinds-front, events-front, event-read}
+use Rattle.why.proofs.Asked.{below-first, past-last, other-answer, is-asked, since-unread, since-not-asked, since-asked, event-read}
 use Rattle.why.proofs.since_when.Statement.{statement}
 use Rattle.why.proofs.since_when.Tie as tie
 
@@ -29,11 +29,11 @@ read-well c = good (bytes c) (c .before .before .before .before .read .result) (
 -- its kinds and events stand at the front of both rooms
 kinds-read : (c : tie.Else1) → let r = c .before .before .before .before .read in
     (take (r .result .posts) (r .last .1 .0) ≡ decode (bytes c) .kinds) × (r .result .posts ≤ length (r .last .1 .0))
-kinds-read c = let r = c .before .before .before .before .read in kinds-front (r .result) (decode (bytes c)) (read-well c .1) _ _ (r .ensures .1)
+kinds-read c = let r = c .before .before .before .before .read in front (r .result) (c .if1 .left) _ _ _ _ (ap (λ (f : Found). f .posts) (read-well c .1)) (r .ensures .1)
 
 events-read : (c : tie.Else1) → let r = c .before .before .before .before .read in
     (take (r .result .events) (r .last .1 .1 .0) ≡ decode (bytes c) .events) × (r .result .events ≤ length (r .last .1 .1 .0))
-events-read c = let r = c .before .before .before .before .read in events-front (r .result) (decode (bytes c)) (read-well c .1) _ _ (r .ensures .2)
+events-read c = let r = c .before .before .before .before .read in front (r .result) (c .if1 .left) _ _ _ _ (ap (λ (f : Found). f .events) (read-well c .1)) (r .ensures .2)
 
 -- how many events there are
 count : (c : tie.Else1) → c .before .before .before .before .read .result .events ≡ length (decode (bytes c) .events)
