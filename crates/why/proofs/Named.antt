@@ -1,8 +1,9 @@
 -- What is answered to the question, exactly when; and the theorem that the owner asks for, over the states of the run.
---     since-iff     an answer is the call's exactly when it may be named: 29 'given exactly when', and the one event, or the start, since which it is so
---     named-event   the event named was taken, made the change, and none since undid it; and what it can be
---     only-named    an event that fits that is the one named
---     start-iff     position 0 is given exactly for a 13 whose RL was up in every state before it
+--     since-iff            an answer is the call's exactly when it may be named: 29 'given exactly when', and the one event, or the start, since which it is so
+--     unanswered-refused   29 for every question of a sheet with an event not yet answered
+--     named-event          the event named was taken, made the change, and none since undid it; and what it can be
+--     only-named           an event that fits that is the one named
+--     start-iff            position 0 is given exactly for a 13 whose RL was up in every state before it
 -- Assumes nothing.
 use Prim.Native.Nat.{ℕ, suc, _+_, _-_, _≤_, _<_}
 use mathlib.Core.Path.{_≡_, refl, sym, ap, subst, _∙_}
@@ -13,13 +14,14 @@ use native.Mathlib.Omega.{arith}
 use borrow.Author.Tests.{ne-eqb, eqb-true, eqb-false}
 use lib.Dec.{eqb}
 use lib.ListN.{length, take}
-use Rattle.relay.proofs.Frame.{answer-is, refused-alters-nothing}
+use Rattle.relay.proofs.Frame.{answer-is, answer-small, refused-alters-nothing}
 use Rattle.relay.proofs.Truth.{or-facts, split, equal-or-not, least-or-below}
 use Rattle.relay.specs.Answers.{taken, lDown, rlDown, rlUp}
 use Rattle.relay.specs.Line.{After}
 use Rattle.relay.specs.Posts.{at}
 use Rattle.sheet.proofs.First.{NamedSheet, verdict-iff}
 use Rattle.sheet.specs.Entry.{numberOf, postOf, answerOf, stampOf}
+use Rattle.sheet.specs.Layout.{unanswered}
 use Rattle.sheet.specs.Reading.{accepted, verdictOf, decode}
 use Rattle.sheet.specs.Sheet.{Sheet}
 use Rattle.sheet.specs.declared.Verdict.{Verdict}
@@ -202,6 +204,17 @@ names s k v (from-start a e f) =
 -- an answer is the call's exactly when it may be named
 pub since-iff : (s : List ℕ) (k : ℕ) (v : Since) → (sinceOf s k ≡ v) ↔ NamedSince s k v
 since-iff s k v = (λ e. subst (NamedSince s k) e (named s k), names s k v)
+
+-- an event not yet answered has no right answer: of a sheet with one nothing is told
+pub unanswered-refused : (s : List ℕ) (k j : ℕ) → verdictOf s .number ≡ 0 → 1 ≤ j → j ≤ length (decode s .events)
+    → answerOf (eventAt (decode s) j) ≡ unanswered
+    → sinceOf s k ≡ since 29 0 0
+unanswered-refused s k j z h l u =
+    let w = stateAfter (decode s) (j - 1) in
+    let e = eventAt (decode s) j in
+    names s k (since 29 0 0)
+    (not-worked j z h l
+    (λ r. omega (arith, u, r, answer-is (w .line) (w .told .head) (numberOf e) (postOf e) (stampOf e), answer-small (w .line) (w .told .head) (numberOf e) (postOf e) (stampOf e))))
 
 -- ---- what the owner asks for
 -- a question with number 0 is one of an event of a worked sheet with one of the three answers

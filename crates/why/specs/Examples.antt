@@ -1,5 +1,5 @@
--- Questions with their answers, on sheets that are worked. 02, item 1.
--- That these are the answers, and that the sheets are what working their events gives, stands in proofs/Paper.antt.
+-- Questions with their answers: on four sheets that are worked, and on one with an answer that working does not give. 02, item 1.
+-- That these are the answers stands in proofs/Paper.antt.
 -- Assumes nothing.
 use Prim.Native.Nat.{ℕ}
 use mathlib.Core.List.{List, [], _∷_}

@@ -7,7 +7,7 @@ ghost use Rattle.relay.specs.Choice.{pick};
 ghost use Rattle.relay.specs.Kinds.{tableOk};
 ghost use Rattle.relay.specs.Posts.{at};
 ghost use Rattle.row.specs.Row.{lineOf};
-ghost use Rattle.why.specs.Why.{sinceIn, sinceOf, sinceWhen};
+ghost use Rattle.why.specs.Why.{sinceOf, sinceWhen};
 ghost use Rattle.why.specs.Why.{so as Why·so, speaks as Why·speaks, since as Why·since};
 use row::Row;
 use sheet::layout::MOST_ENTRIES;
@@ -23,6 +23,7 @@ pub struct Since {
     pub position: u32,
 }
 
+// What is returned, by its three numbers.
 fn tell(number: u32, block: u32, position: u32) -> Since
     ensures { λ r. ⌜ r ≡ Why·since number block position ⌝ }
 {
@@ -88,7 +89,7 @@ fn later(was: bool, is: bool, here: u32, since: u32) -> u32
     since
 }
 
-// Works the events before and after the one at `position`, compares each answer, and watches the relay that `answer` speaks of at `place` up to it.
+// Works all events from the fresh line and compares each one's answer with what the sheet says; up to the event at `position` it watches the relay that `answer` speaks of at post `place`.
 fn watch(
     kinds: &[u32],
     stamp: u32,

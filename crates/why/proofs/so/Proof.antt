@@ -1,3 +1,4 @@
+-- `why::so` meets its contract, by the answer; a relay is up where its bit is not 0, and down is not up.
 use mathlib.Core.Bool.{Bool·not-not as not-not}
 use Rattle.relay.specs.Relays.{up}
 use Rattle.relay.proofs.Tests.{tests}

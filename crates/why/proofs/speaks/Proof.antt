@@ -1,3 +1,4 @@
+-- `why::speaks` meets its contract, by the three numbers one after the other.
 use Rattle.relay.proofs.Tests.{tests}
 use Rattle.why.specs.Why.{speaks}
 use Rattle.why.proofs.speaks.Statement.{statement}

@@ -1,3 +1,4 @@
+-- `why::word_at` meets its contract, by where the post stands: in no line, in it, or past it.
 use Rattle.relay.proofs.Tests.{tests}
 use Rattle.why.proofs.Words.{no-line, of-line, past-line}
 use Rattle.why.proofs.word_at.Statement.{statement}
