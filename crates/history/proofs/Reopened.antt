@@ -25,7 +25,7 @@ use Rattle.history.specs.Demand.{Freed}
 use Rattle.history.proofs.Reached.{run-reached}
 use Rattle.history.proofs.Runs.{Sound, reached-sound, begun-sound}
 use Rattle.history.proofs.Kind.{reached-kinds}
-use Rattle.history.proofs.Signal.{Says, reached-says}
+use Rattle.history.proofs.Signal.{Says, reached-open}
 use Rattle.history.proofs.Turns.{Turn, quiet, sends, frees, turn}
 
 -- ---- since a history base: post q, at i, after the history h
@@ -224,7 +224,7 @@ module _ (l : List Post) (ks : List ℕ) (t : ℕ) (f : startable l ks ≡ true)
       befalls-order i x
       (record {
         sound = reached-sound r (begun-sound l ks t f);
-        says = reached-says l ks t f r;
+        says = reached-open l ks t f r;
         blocks = rw (reached-kinds l ks t f r i) k;
       })
       (reached-order r)

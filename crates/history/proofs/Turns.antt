@@ -1,7 +1,7 @@
 -- What an entry of the history may make of L and RL at a post.
 -- Each case of an event holds because only 5 drops RL, and only a release received and a restoration raise L or RL, where RL was down.
 use Prim.Native.Nat.{ℕ, _+_, _<_}
-use mathlib.Core.Path.{_≡_, refl}
+use mathlib.Core.Path.{_≡_, refl, _∙_}
 use mathlib.Core.Bool.{true, false, _||_}
 use mathlib.Core.List.{List}
 use native.Mathlib.Omega.{arith}
@@ -18,6 +18,7 @@ use Rattle.relay.proofs.Accepted.{event-cases}
 use Rattle.relay.proofs.Cases.{Taken, reverse, normalise, pass, pass-idle, strike-block, strike-close, strike-idle, announce, release, garage, announcement-arrives, release-arrives, announcement-lost, release-lost, restore, accepted-case}
 use Rattle.relay.proofs.Facts.{SectionOk}
 use Rattle.relay.proofs.Frame.{taken-replaces, neighbour-within}
+use Rattle.relay.proofs.Touched.{other-stays}
 use Rattle.relay.proofs.Truth.{ones, up-or-down, split, equal-or-not}
 use Rattle.relay.proofs.Word.{relays}
 use Rattle.history.specs.History.{Entry, entry, did, announces, receives}
@@ -60,21 +61,7 @@ turn-here f z (restore m a b c d) = frees a (simp f)
 
 -- its neighbour
 turn-other : {n i k j t : ℕ} {h : List Entry} {p o : Post} {b : Pair} → Taken k j p o n b → Turn i h (entry (ev-at n k t) 0) o (b .other)
-turn-other (reverse a b) = quiet (λ e. e) refl
-turn-other (normalise a) = quiet (λ e. e) refl
-turn-other (pass a b c) = quiet (λ e. e) refl
-turn-other (pass-idle a b) = quiet (λ e. e) refl
-turn-other (strike-block a b) = quiet (λ e. e) refl
-turn-other (strike-close a b) = quiet (λ e. e) refl
-turn-other (strike-idle a b) = quiet (λ e. e) refl
-turn-other (announce a b c) = quiet (λ e. e) refl
-turn-other (release m a b c d e) = quiet (λ e. simp relays e) (simp relays)
-turn-other (garage m a b c) = quiet (λ e. simp relays e) (simp relays)
-turn-other (announcement-arrives m a) = quiet (λ e. simp relays e) (simp relays)
-turn-other (release-arrives m a b) = quiet (λ e. e) refl
-turn-other (announcement-lost m a) = quiet (λ e. e) refl
-turn-other (release-lost m a b) = quiet (λ e. e) refl
-turn-other (restore m a b c d) = quiet (λ e. e) refl
+turn-other T = quiet (λ e. other-stays T L refl ∙ e) (other-stays T RL refl)
 
 -- any post i, by any event, taken or refused
 pub turn : (e : Event) (w : State) → Sound w → (i : ℕ)

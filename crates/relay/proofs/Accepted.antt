@@ -13,25 +13,25 @@ use Rattle.relay.specs.Choice.{grown}
 use Rattle.relay.specs.Clock.{behind}
 use Rattle.relay.specs.Events.{refusal, reverseRefusal, normalRefusal, announceRefusal, releaseRefusal, garageRefusal, underWayRefusal, restoreRefusal}
 use Rattle.relay.specs.Kinds.{terminus}
-use Rattle.relay.specs.Line.{head, told, After, after, numbered, namesSection, present, neighbour, gate, answerOf, changedLine, eventOf}
+use Rattle.relay.specs.Line.{head, told, After, after, lastEvent, numbered, namesSection, present, neighbour, gate, answerOf, changedLine, eventOf}
 use Rattle.relay.specs.Posts.{at}
 use Rattle.relay.specs.Relays.{An, KPg, L, RL, lever, W314, W241, up}
 use Rattle.relay.specs.Valid.{valid, mostEvents}
 use Rattle.relay.specs.declared.Head.{Head}
 use Rattle.relay.specs.declared.Post.{Post}
 use Rattle.relay.proofs.Facts.{ValidLine, valid-iff}
-use Rattle.relay.proofs.Truth.{refusals, facts, unless-facts, then-facts, least-or-below, by}
+use Rattle.relay.proofs.Truth.{refusals, facts, unless-facts, then-facts, split, by}
 
 -- what is known of an event that is taken
 pub record Accepted (l : List Post) (s : Head) (n i t : ℕ) : Type 0 where
   -- not 1: the line may be used
   pub valid : ValidLine l s
-  -- not 3: the event number is 1 to 10
+  -- not 3: the event number is one of the events'
   pub least : 1 ≤ n
-  pub most : n ≤ 10
+  pub most : n ≤ lastEvent
   -- not 2: there is such a post, and such a section for 8, 9, 10
   pub place : i < length l
-  pub section : 8 ≤ n → i + 1 < length l
+  pub section : namesSection n ≡ true → i + 1 < length l
   -- not 5: fewer than 1,000,000 events are taken
   pub room : s .taken < mostEvents
   -- not 4: the stamp is not behind the last
@@ -41,7 +41,7 @@ pub record Accepted (l : List Post) (s : Head) (n i t : ℕ) : Type 0 where
 
 -- the answer is 0 exactly when these are known
 pub accepted-iff : (l : List Post) (s : Head) (n i t : ℕ) → (answerOf l s n i t ≡ 0) ↔ Accepted l s n i t
-unfolding answerOf gate numbered present namesSection
+unfolding answerOf gate numbered present
 accepted-iff l s n i t = (
   λ e.
       let f = simp (then-facts, unless-facts, facts, valid-iff) at e in
@@ -49,7 +49,7 @@ accepted-iff l s n i t = (
         valid = f .0;
         least = f .1 .0 .0 .0;
         most = f .1 .0 .0 .1;
-        place = least-or-below 8 n (λ k. omega (arith, f .1 .0 .1 .0 .0 k)) (λ k. f .1 .0 .1 .0 .1 k);
+        place = split (namesSection n) (λ k. omega (arith, f .1 .0 .1 .0 .0 k)) (λ k. f .1 .0 .1 .0 .1 k);
         section = f .1 .0 .1 .0 .0;
         room = f .1 .0 .1 .1 .0;
         stamp = f .1 .0 .1 .1 .1 .0;

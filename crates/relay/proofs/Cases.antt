@@ -11,7 +11,7 @@ use lib.Dec.{eqb}
 use Rattle.relay.specs.Choice.{grown}
 use Rattle.relay.specs.Events.{pair, reversed, normal, passed, struck, announced, released, garaged, releaseUnderWay, arrived, lost, restored, lacks, ownRefusal, refusal, changed}
 use Rattle.relay.specs.Kinds.{origin, terminus, hasSignalPedal, hasPassagePedal, hasGarageRelease, blocksAtPedal}
-use Rattle.relay.specs.Line.{neighbour}
+use Rattle.relay.specs.Line.{lastEvent, namesSection, neighbour}
 use Rattle.relay.specs.Posts.{at, post, wordTo, more-a, more-x, more-y, more-v, more-g, more-r, more-q}
 use Rattle.relay.specs.Relays.{An, KPg, L, RL, lever, signal, W314, W241, up, raise, lower}
 use Rattle.relay.specs.declared.Head.{Head}
@@ -140,48 +140,48 @@ module _ (i : ℕ) (p o : Post) (first : i ≡ 0 → p .kind ≡ origin) where
       announce (simp facts at (e .0)) (f .0) (f .1)
 
   is-release : Is 6
-  unfolding changed lacks ownRefusal released releaseUnderWay
+  unfolding changed lacks ownRefusal released releaseUnderWay namesSection
   is-release e =
       let f = release-iff (p .kind) (p .word) .0 (e .1) in
       let k = simp facts at (e .0) in
-      release (neighbour-post 6 i (omega arith) (λ z. k (first z))) k (f .0) (f .1 .0) (f .1 .1 .0) (f .1 .1 .1)
+      release (neighbour-post 6 i refl (λ z. k (first z))) k (f .0) (f .1 .0) (f .1 .1 .0) (f .1 .1 .1)
 
   is-garage : Is 7
-  unfolding changed lacks ownRefusal garaged released releaseUnderWay
+  unfolding changed lacks ownRefusal garaged released releaseUnderWay namesSection
   is-garage e =
       let f = garage-iff (p .word) .0 (e .1) in
       let k = simp facts at (e .0) in
-      garage (neighbour-post 7 i (omega arith) (λ z. omega (arith, first z, garage-kind (p .kind) k))) k (f .0) (f .1)
+      garage (neighbour-post 7 i refl (λ z. omega (arith, first z, garage-kind (p .kind) k))) k (f .0) (f .1)
 
   is-arrival : Is 8
-  unfolding changed ownRefusal arrived
+  unfolding changed ownRefusal arrived namesSection
   is-arrival e =
-      by (λ b. Case 8 b) (up W314 (p .word)) (announcement-arrives (neighbour-section 8 i (omega arith)))
-      (λ b. release-arrives (neighbour-section 8 i (omega arith)) b (under-way-iff (p .word) .0 (e .1) b))
+      by (λ b. Case 8 b) (up W314 (p .word)) (announcement-arrives (neighbour-section 8 i refl))
+      (λ b. release-arrives (neighbour-section 8 i refl) b (under-way-iff (p .word) .0 (e .1) b))
 
   is-loss : Is 9
-  unfolding changed ownRefusal lost
+  unfolding changed ownRefusal lost namesSection
   is-loss e =
-      by (λ q. Case 9 (pair q o)) (up W314 (p .word)) (announcement-lost (neighbour-section 9 i (omega arith)))
-      (λ b. release-lost (neighbour-section 9 i (omega arith)) b (under-way-iff (p .word) .0 (e .1) b))
+      by (λ q. Case 9 (pair q o)) (up W314 (p .word)) (announcement-lost (neighbour-section 9 i refl))
+      (λ b. release-lost (neighbour-section 9 i refl) b (under-way-iff (p .word) .0 (e .1) b))
 
   is-restore : Is 10
-  unfolding changed ownRefusal restored
+  unfolding changed ownRefusal restored namesSection
   is-restore e =
       let f = restore-iff (p .word) (o .word) .0 (e .1) in
-      restore (neighbour-section 10 i (omega arith)) (f .0) (f .1 .0 .0) (f .1 .0 .1) (f .1 .1)
+      restore (neighbour-section 10 i refl) (f .0) (f .1 .0 .0) (f .1 .0 .1) (f .1 .1)
 
   -- every event number
-  pub taken-cases : (n : ℕ) → 1 ≤ n → n ≤ 10 → refusal n (p .kind) (p .word) (o .word) ≡ 0 → Case n (changed n p o)
+  pub taken-cases : (n : ℕ) → 1 ≤ n → n ≤ lastEvent → refusal n (p .kind) (p .word) (o .word) ≡ 0 → Case n (changed n p o)
   taken-cases n h k e =
-      from Is 10 1 is-reverse
-      (from Is 10 2 is-normal
-      (from Is 10 3 is-pass
-      (from Is 10 4 is-strike
-      (from Is 10 5 is-announce
-      (from Is 10 6 is-release
-      (from Is 10 7 is-garage
-      (from Is 10 8 is-arrival (from Is 10 9 is-loss (from Is 10 10 is-restore (λ n h k. absurd (omega arith)))))))))))
+      from Is lastEvent 1 is-reverse
+      (from Is lastEvent 2 is-normal
+      (from Is lastEvent 3 is-pass
+      (from Is lastEvent 4 is-strike
+      (from Is lastEvent 5 is-announce
+      (from Is lastEvent 6 is-release
+      (from Is lastEvent 7 is-garage
+      (from Is lastEvent 8 is-arrival (from Is lastEvent 9 is-loss (from Is lastEvent 10 is-restore (λ n h k. absurd (omega arith)))))))))))
       n h k (own-iff p o n .0 e)
 
 -- an event that is taken on a line is in one of its cases

@@ -6,7 +6,7 @@ use mathlib.Core.Bool.{Bool, true, false}
 use mathlib.Core.List.{List}
 use mathlib.Core.Logic.{_↔_, _⊎_, inl, inr, ⊎-elim}
 use native.Mathlib.Omega.{arith}
-use borrow.Author.Tests.{leb-true, le-leb, lt-leb, ne-eqb}
+use borrow.Author.Tests.{leb-true, ne-eqb}
 use lib.Dec.{leb}
 use lib.ListN.{length, length-set}
 use lib.Seq.{getD-set-same, getD-set-other, lt-length-set}
@@ -21,7 +21,7 @@ use Rattle.relay.specs.declared.Post.{Post}
 use Rattle.relay.specs.declared.Told.{Told}
 use Rattle.relay.proofs.Accepted.{Accepted, accepted-iff, event-cases}
 use Rattle.relay.proofs.Rules.{rules}
-use Rattle.relay.proofs.Truth.{every, split, equal-or-not, least-or-below}
+use Rattle.relay.proofs.Truth.{every, split, equal-or-not}
 
 -- ---- the answer
 -- an event's answer is that of the order of refusals
@@ -71,24 +71,24 @@ session-moves l s n i t =
 
 -- ---- the two posts
 -- the neighbour of a section's upstream post is downstream
-pub neighbour-section : (n i : ℕ) → 8 ≤ n → neighbour n i ≡ i + 1
-unfolding neighbour namesSection
-neighbour-section n i h = rw (le-leb 8 n h)
+pub neighbour-section : (n i : ℕ) → namesSection n ≡ true → neighbour n i ≡ i + 1
+unfolding neighbour
+neighbour-section n i h = rw h
 
 -- post 0 has its neighbour downstream
 pub neighbour-first : (n : ℕ) → neighbour n 0 ≡ 1
-unfolding neighbour namesSection
-neighbour-first n = split (leb 8 n) (λ e. rw e) (λ e. rw e)
+unfolding neighbour
+neighbour-first n = split (namesSection n) (λ e. rw e) (λ e. rw e)
 
--- every other post has its neighbour upstream, for the events 1 to 7
-pub neighbour-post : (n i : ℕ) → n < 8 → (i ≡ 0 → ⊥) → i ≡ neighbour n i + 1
-unfolding neighbour namesSection
-neighbour-post n i h k = rw (lt-leb 8 n h, ne-eqb i 0 k) (omega arith)
+-- every other post has its neighbour upstream, for the events that name a post
+pub neighbour-post : (n i : ℕ) → namesSection n ≡ false → (i ≡ 0 → ⊥) → i ≡ neighbour n i + 1
+unfolding neighbour
+neighbour-post n i h k = rw (h, ne-eqb i 0 k) (omega arith)
 
 -- an event's neighbour is the post before or after
 pub neighbour-beside : (n i : ℕ) → (neighbour n i ≡ i + 1) ⊎ (i ≡ neighbour n i + 1)
 neighbour-beside n i =
-    least-or-below 8 n
+    split (namesSection n)
     (λ e. inl (neighbour-section n i e))
     (λ e. equal-or-not i 0 (λ f. inl (rw f (neighbour-first n))) (λ f. inr (neighbour-post n i e f)))
 
@@ -99,7 +99,7 @@ not-itself n i e = ⊎-elim (λ f. omega arith) (λ f. omega arith) (neighbour-b
 -- the neighbour of an event that is taken is a post of the line
 pub neighbour-within : (l : List Post) (s : Head) (n i t : ℕ) → Accepted l s n i t → neighbour n i < length l
 neighbour-within l s n i t r =
-    least-or-below 8 n
+    split (namesSection n)
     (λ e. omega (arith, neighbour-section n i e, r .section e))
     (λ e.
     equal-or-not i 0

@@ -6,7 +6,7 @@ use mathlib.Core.Bool.{Bool, true, false, not, _&&_, _||_, or-false, or-true, an
 use mathlib.Core.List.{List, [], _∷_}
 use mathlib.Core.Logic.{_↔_}
 use native.Mathlib.Omega.{arith}
-use borrow.Author.Tests.{eqb-true, eq-eqb, ne-eqb, le-leb, lt-leb, lt-ltb, le-ltb}
+use borrow.Author.Tests.{eq-eqb, ne-eqb, le-leb, lt-leb, lt-ltb, le-ltb}
 use lib.Dec.{eqb, leb, ltb}
 use lib.ListN.{length}
 use Rattle.relay.specs.Choice.{pick}
@@ -14,7 +14,7 @@ use Rattle.relay.specs.Clock.{apart, behind}
 use Rattle.relay.specs.Events.{refusal, lacks, ownRefusal, reverseRefusal, normalRefusal, announceRefusal, releaseRefusal, garageRefusal, underWayRefusal, restoreRefusal}
 use Rattle.relay.specs.Given.{Row, eventReasons, reasons, givenBy, given, othersRight, kindsRight, tableWrong, startReasons}
 use Rattle.relay.specs.Kinds.{hasSignalPedal, hasPassagePedal, hasGarageRelease, between, countFits, kindFits, kindsFit, tableOk}
-use Rattle.relay.specs.Line.{numbered, namesSection, present, neighbour, gate, answerOf, After, startable, startOf}
+use Rattle.relay.specs.Line.{lastEvent, numbered, namesSection, present, neighbour, gate, answerOf, After, startable, startOf}
 use Rattle.relay.specs.Posts.{at}
 use Rattle.relay.specs.Valid.{valid}
 use Rattle.relay.specs.declared.Head.{Head}
@@ -88,19 +88,19 @@ module _ (l : List Post) (i w : ℕ) where
   AtAll n = (k : ℕ) → k < 5 → At n k
 
   -- every event number
-  own : (n : ℕ) → 1 ≤ n → n ≤ 10 → AtAll n
+  own : (n : ℕ) → 1 ≤ n → n ≤ lastEvent → AtAll n
   unfolding first eventReasons refusal lacks ownRefusal reverseRefusal normalRefusal announceRefusal releaseRefusal garageRefusal underWayRefusal restoreRefusal hasPassagePedal hasSignalPedal hasGarageRelease neighbour namesSection
   own =
-      from AtAll 10 1 (kinds (At 1) (simp or-false) (simp or-false) (simp or-false) (simp or-false) (simp or-false))
-      (from AtAll 10 2 (kinds (At 2) refl refl refl refl refl)
-      (from AtAll 10 3 (kinds (At 3) refl refl refl refl refl)
-      (from AtAll 10 4 (kinds (At 4) refl refl refl refl refl)
-      (from AtAll 10 5 (kinds (At 5) (simp or-false) refl (simp or-false) (simp or-false) (simp or-false))
-      (from AtAll 10 6 (kinds (At 6) refl refl refl refl refl)
-      (from AtAll 10 7 (kinds (At 7) refl refl refl refl refl)
-      (from AtAll 10 8 (kinds (At 8) refl refl refl refl refl)
-      (from AtAll 10 9 (kinds (At 9) refl refl refl refl refl)
-      (from AtAll 10 10 (kinds (At 10) refl refl refl refl refl) (λ n x y. absurd (omega arith)))))))))))
+      from AtAll lastEvent 1 (kinds (At 1) (simp or-false) (simp or-false) (simp or-false) (simp or-false) (simp or-false))
+      (from AtAll lastEvent 2 (kinds (At 2) refl refl refl refl refl)
+      (from AtAll lastEvent 3 (kinds (At 3) refl refl refl refl refl)
+      (from AtAll lastEvent 4 (kinds (At 4) refl refl refl refl refl)
+      (from AtAll lastEvent 5 (kinds (At 5) (simp or-false) refl (simp or-false) (simp or-false) (simp or-false))
+      (from AtAll lastEvent 6 (kinds (At 6) refl refl refl refl refl)
+      (from AtAll lastEvent 7 (kinds (At 7) refl refl refl refl refl)
+      (from AtAll lastEvent 8 (kinds (At 8) refl refl refl refl refl)
+      (from AtAll lastEvent 9 (kinds (At 9) refl refl refl refl refl)
+      (from AtAll lastEvent 10 (kinds (At 10) refl refl refl refl refl) (λ n x y. absurd (omega arith)))))))))))
 
 -- ---- 1, 3, 2, 5 and 4
 -- one list, then another: the first's numbers go first
@@ -123,15 +123,14 @@ no-section m i =
     (λ h. rw (le-ltb (i + 1) m h) (sym (or-true (not (ltb i m)))))
     (λ h. rw (lt-ltb (i + 1) m h, lt-ltb i m (omega arith)))
 
-place : (m i n : ℕ) → n ≤ 10 → Place m i n
+place : (m i n : ℕ) → Place m i n
 unfolding present namesSection
-place m i n h =
-    least-or-below 8 n
-    (λ a.
-    from (Place m i) 10 8 (no-section m i)
-    (from (Place m i) 10 9 (no-section m i) (from (Place m i) 10 10 (no-section m i) (λ n x y. absurd (omega arith))))
-    n a h)
-    (λ a. simp (lt-leb 8 n a, ne-eqb n 8 (λ e. omega arith), ne-eqb n 9 (λ e. omega arith), ne-eqb n 10 (λ e. omega arith), or-false))
+place m i n =
+    by-section (eqb n 8 || eqb n 9 || eqb n 10)
+  where
+    by-section : (b : Bool) → not (pick b (ltb (i + 1) m) (ltb i m)) ≡ (not (ltb i m) || b && not (ltb (i + 1) m))
+    by-section true = no-section m i
+    by-section false = sym (or-false (not (ltb i m)))
 
 -- 'its difference from the last, taken round 2^32 and read as a signed number, is below zero'
 stamp : (u t : ℕ) → behind u t ≡ leb (2 ^ 31) ((t + 2 ^ 32 - u) % 2 ^ 32)
@@ -157,7 +156,7 @@ answer-first l s n i t =
     (past (not (leb 1 n && leb n 10)) 3
     (λ e.
     let h = simp facts at e in
-    rw (place (length l) i n (h .1))
+    rw (place (length l) i n)
     (past (not (ltb i (length l)) || (eqb n 8 || eqb n 9 || eqb n 10) && not (ltb (i + 1) (length l))) 2
     (λ p.
     past (leb 1000000 (s .taken)) 5

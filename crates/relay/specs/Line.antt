@@ -50,13 +50,17 @@ unfoldable pub startOf : List Post → List ℕ → ℕ → After
 startOf l ks t = pick (startable l ks) (after (told taken (head 0 t)) (freshLine ks)) (after (told notValid (head 0 0)) l)
 
 -- ---- one event: its number n, the post or section i that it names, its stamp t
+-- the events are numbered from 1 to this
+abbrev pub lastEvent : ℕ
+lastEvent = 10
+
 -- 'event number not 1 to 10'
 unfoldable pub numbered : ℕ → Bool
-numbered n = leb 1 n && leb n 10
+numbered n = leb 1 n && leb n lastEvent
 
 -- events 8, 9 and 10 name a section
 unfoldable pub namesSection : ℕ → Bool
-namesSection n = leb 8 n
+namesSection n = eqb n 8 || eqb n 9 || eqb n 10
 
 -- 'no such post, or no such section for 8, 9, 10': section i lies between the posts i and i + 1
 unfoldable pub present : ℕ → ℕ → ℕ → Bool

@@ -1,6 +1,6 @@
 // The tests that come before an event's own, and the event as a whole on the post named and its neighbour.
 ghost use mathlib.Core.Path.{_≡_};
-ghost use Rattle.relay.specs.Line.{told, head, gate, present, neighbour, workOf};
+ghost use Rattle.relay.specs.Line.{told, head, namesSection, gate, present, neighbour, workOf};
 use crate::Head;
 use crate::Pair;
 use crate::Post;
@@ -30,12 +30,19 @@ pub fn refuse(answer: u32, s: Head) -> Told
     }
 }
 
+// Events 8, 9 and 10 name a section, the others a post.
+pub fn names_section(number: u32) -> bool
+    ensures { λ r. ⌜ r ≡ namesSection number ⌝ }
+{
+    (number == 8) | (number == 9) | (number == 10)
+}
+
 // Whether the post `i`, or for 8, 9 and 10 the section `i`, is one of a line of `m` posts.
 pub fn is_present(m: usize, number: u32, i: u32) -> bool
     ensures { λ r. ⌜ r ≡ present m number i ⌝ }
 {
     let at = i as usize;
-    if number >= 8 {
+    if names_section(number) {
         return at + 1 < m;
     }
     at < m
@@ -46,7 +53,7 @@ pub fn neighbour_of(number: u32, i: u32) -> usize
     ensures { λ r. ⌜ r ≡ neighbour number i ⌝ }
 {
     let at = i as usize;
-    if number >= 8 {
+    if names_section(number) {
         return at + 1;
     }
     if at == 0 {
@@ -62,7 +69,7 @@ pub fn gate_refusal(m: usize, s: Head, number: u32, i: u32, stamp: u32) -> u32
     if number < 1 {
         return crate::NO_SUCH_EVENT;
     }
-    if number > 10 {
+    if number > crate::LAST_EVENT {
         return crate::NO_SUCH_EVENT;
     }
     if !is_present(m, number, i) {

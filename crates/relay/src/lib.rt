@@ -73,6 +73,9 @@ pub const SIGNAL_UNDER_WAY: u32 = 16;
 
 pub const AN_UP: u32 = 17;
 
+// The number of the last event.
+pub const LAST_EVENT: u32 = 10;
+
 // The most events of a session.
 pub const MOST_EVENTS: u32 = 1000000;
 

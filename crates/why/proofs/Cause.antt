@@ -10,6 +10,7 @@ use lib.Dec.{eqb}
 use Rattle.relay.proofs.Accepted.{event-cases}
 use Rattle.relay.proofs.Cases.{Taken, reverse, normalise, pass, pass-idle, strike-block, strike-close, strike-idle, announce, release, garage, announcement-arrives, release-arrives, announcement-lost, release-lost, restore, accepted-case}
 use Rattle.relay.proofs.Frame.{taken-replaces}
+use Rattle.relay.proofs.Touched.{other-stays}
 use Rattle.relay.proofs.Truth.{or-facts, equal-or-not}
 use Rattle.relay.proofs.Word.{relays}
 use Rattle.relay.specs.Answers.{lDown, rlDown, rlUp}
@@ -62,21 +63,7 @@ moves-here f (restore k a b c d) = frees (restored refl f) (simp relays) (simp r
 
 -- its neighbour
 moves-other : {m i j p : ℕ} {q o : Post} {b : Pair} → Taken i j q o m b → Moves m i p o (b .other)
-moves-other (reverse a b) = still refl refl
-moves-other (normalise a) = still refl refl
-moves-other (pass a b c) = still refl refl
-moves-other (pass-idle a b) = still refl refl
-moves-other (strike-block a b) = still refl refl
-moves-other (strike-close a b) = still refl refl
-moves-other (strike-idle a b) = still refl refl
-moves-other (announce a b c) = still refl refl
-moves-other (release k a b c d e) = still (simp relays) (simp relays)
-moves-other (garage k a b c) = still (simp relays) (simp relays)
-moves-other (announcement-arrives k a) = still (simp relays) (simp relays)
-moves-other (release-arrives k a b) = still refl refl
-moves-other (announcement-lost k a) = still refl refl
-moves-other (release-lost k a b) = still refl refl
-moves-other (restore k a b c d) = still refl refl
+moves-other T = still (other-stays T L refl) (other-stays T RL refl)
 
 -- any post, by any event, taken or refused
 moves : (l : List Post) (s : Head) (m i t p : ℕ) → Moves m i p (at l p) (at (eventOf l s m i t .line) p)

@@ -1,18 +1,22 @@
-use Rattle.relay.specs.Line.{present, namesSection}
+use mathlib.Core.Path.{sym, _∙_}
+use Rattle.relay.specs.Line.{present}
 use Rattle.relay.proofs.Tests.{tests}
 use Rattle.relay.proofs.gate.is_present.Statement.{statement}
 use Rattle.relay.proofs.gate.is_present.Tie as tie
+
+names-section-requires : tie.Need-names-section-requires
+names-section-requires c κs = search tests
 
 add-result : tie.Need-add-result
 add-result c = search tests
 
 returns : tie.Need-returns
-unfolding present namesSection
-returns c = search tests
+unfolding present
+returns c = search (tests, sym (c .before .names-section .ensures) ∙ c .if1 .taken)
 
 returns-2 : tie.Need-returns-2
-unfolding present namesSection
-returns-2 c = search tests
+unfolding present
+returns-2 c = search (tests, sym (c .before .names-section .ensures) ∙ c .if1 .left)
 
 pub is-present-spec : {M : Type 1} → statement M
-is-present-spec = tie.close (tie.spec add-result returns returns-2)
+is-present-spec = tie.close (tie.spec names-section-requires add-result returns returns-2)

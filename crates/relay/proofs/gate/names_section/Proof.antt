@@ -1,0 +1,11 @@
+use Rattle.relay.specs.Line.{namesSection}
+use Rattle.relay.proofs.Tests.{tests}
+use Rattle.relay.proofs.gate.names_section.Statement.{statement}
+use Rattle.relay.proofs.gate.names_section.Tie as tie
+
+returns : tie.Need-returns
+unfolding namesSection
+returns c = search tests
+
+pub names-section-spec : {M : Type 1} → statement M
+names-section-spec = tie.close (tie.spec returns)
