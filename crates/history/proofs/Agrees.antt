@@ -1,7 +1,7 @@
 -- What a history says of a section is what the records of its two posts say, and each event that is taken keeps it so.
 -- Each case holds because the test that grows a count of the history is the test that grows the count of the record.
 use Prim.Native.Nat.{ℕ, _+_, _≤_, _<_}
-use mathlib.Core.Path.{_≡_, refl}
+use mathlib.Core.Path.{_≡_, refl, sym}
 use mathlib.Core.Bool.{Bool, true, false, _&&_, _||_}
 use mathlib.Core.List.{List, [], _∷_}
 use native.Mathlib.Omega.{arith}
@@ -12,16 +12,16 @@ use Rattle.relay.specs.Events.{pair}
 use Rattle.relay.specs.Examples.{Event, ev-at}
 use Rattle.relay.specs.Kinds.{terminus}
 use Rattle.relay.specs.Posts.{wordTo, more-a, more-x, more-y, more-v, more-g, more-r, more-q, freshWord, freshPost}
-use Rattle.relay.specs.Relays.{An, KPg, L, RL, W314, W241, up, raise, lower}
+use Rattle.relay.specs.Relays.{An, KPg, L, RL, W314, W241, jam, up, raise, lower}
 use Rattle.relay.specs.Valid.{mostEvents}
 use Rattle.relay.specs.declared.Pair.{Pair}
 use Rattle.relay.specs.declared.Post.{Post}
-use Rattle.relay.proofs.Cases.{sentBack, underWay, Taken, reverse, normalise, pass, pass-idle, strike-block, strike-close, strike-idle, announce, release, garage, announcement-arrives, release-arrives, announcement-lost, release-lost, restore}
+use Rattle.relay.proofs.Cases.{sentBack, underWay, Taken, reverse, normalise, pass, pass-idle, strike-block, strike-close, strike-idle, announce, release, garage, announcement-arrives, announcement-jammed, release-arrives, announcement-lost, release-lost, restore, button-jams, button-freed}
 use Rattle.relay.proofs.Facts.{PostOk, SectionOk}
 use Rattle.relay.proofs.KeptPosts.{Alike, alike}
-use Rattle.relay.proofs.Truth.{ones, up-or-down, split, or-facts}
+use Rattle.relay.proofs.Truth.{nor-facts, ones, up-or-down, split}
 use Rattle.relay.proofs.Word.{relays}
-use Rattle.history.specs.History.{Entry, entry, did, announces, releases, lastSent, receives, loses, announced, records, passed, tally, announcementsSent, releasesSent, garageReleases, received, lost, restorations, passages}
+use Rattle.history.specs.History.{Entry, entry, did, isUp, isJammed, announces, releases, lastSent, jamLoses, receives, loses, announced, records, passed, tally, announcementsSent, releasesSent, garageReleases, received, lost, restorations, passages}
 
 -- the section s between the posts p and d, after the history h
 abbrev pub Agrees : ℕ → List Entry → Post → Post → Type 0
@@ -47,7 +47,7 @@ Agrees s h p d =
 -- every definition of a history
 unfoldable pub counting : Unit {0}
 unfolding announcementsSent releasesSent garageReleases received lost restorations passages tally lastSent announced passed
-    receives loses records releases announces did
+    receives loses jamLoses isUp records releases announces did
 counting = tt
 
 -- ---- where section s lies from the post i that an event names: downstream of it, upstream of it, or apart
@@ -118,25 +118,31 @@ one-same true false e = absurd (omega arith)
 one-same false true e = absurd (omega arith)
 
 -- An and KPg are what the history says
-recorded : (s : ℕ) (h : List Entry) (u p : Post) → Agrees s h u p → (announced s h ≡ up An (p .word)) × (passed s h ≡ up KPg (p .word))
+pub recorded : (s : ℕ) (h : List Entry) (u p : Post) → Agrees s h u p → (announced s h ≡ up An (p .word)) × (passed s h ≡ up KPg (p .word))
 recorded s h u p z = (
   one-same (up An (p .word)) (announced s h) (z .received-since),
   one-same (up KPg (p .word)) (passed s h) (z .passed-since),
 )
 
 -- ---- each case of an event
--- 1, 2 and 4 are counted nowhere
-uncounted : (n i t : ℕ) (h : List Entry) (s : ℕ) (u d : Post) → (eqb n 1 || (eqb n 2 || eqb n 4)) ≡ true → Agrees s h u d
-    → Agrees s (more n i t h) u d
+-- 1, 2, 4, 11 and 12 are counted nowhere: the events that are
+abbrev counts : ℕ → Bool
+counts n = eqb n 3 || (eqb n 5 || (eqb n 6 || (eqb n 7 || (eqb n 8 || (eqb n 9 || eqb n 10)))))
+
+uncounted : (n i t : ℕ) (h : List Entry) (s : ℕ) (u d : Post) → counts n ≡ false → Agrees s h u d → Agrees s (more n i t h) u d
 unfolding counting
 uncounted n i t h s u d q z =
-    or-facts (eqb n 1) (eqb n 2 || eqb n 4) (λ e. rw (eqb-true n 1 e) (omega arith))
-    (or-facts (eqb n 2) (eqb n 4) (λ e. rw (eqb-true n 2 e) (omega arith)) (λ e. rw (eqb-true n 4 e) (omega arith)))
-    q
+    let f = simp nor-facts at q in
+    simp (f .0, f .1 .0, f .1 .1 .0, f .1 .1 .1 .0, f .1 .1 .1 .1 .0, f .1 .1 .1 .1 .1 .0, f .1 .1 .1 .1 .1 .1) (omega arith)
+
+-- the history's jam at the post o downstream of section s is bit 8 of its record
+jam-there : (i j s : ℕ) (h : List Entry) (o : Post) → j ≡ i + 1 → up jam (o .word) ≡ isJammed j h → Below i s
+    → isJammed (s + 1) h ≡ up jam (o .word)
+jam-there i j s h o k J f = let e : s + 1 ≡ j = omega (arith, eqb-true i s (f .0)) in rw e (sym J)
 
 module _ {N T i j t : ℕ} {h : List Entry} {p o : Post} (room : T < mostEvents) (r : PostOk N i T p) where
-  -- 1, 2 and 4, with a word w that looks from the sections as before
-  unseen : {n w : ℕ} → (eqb n 1 || (eqb n 2 || eqb n 4)) ≡ true → Alike w (p .word) → Moves n i j t h p o (pair (wordTo w p) o)
+  -- an event that is counted nowhere, with a word w that looks from the sections as before
+  unseen : {n w : ℕ} → counts n ≡ false → Alike w (p .word) → Moves n i j t h p o (pair (wordTo w p) o)
   unseen {n} q e =
       single refl
       (λ s d f k z. simp (e .3, e .4) (uncounted n i t h s p d q z))
@@ -188,14 +194,23 @@ module _ {N T i j t : ℕ} {h : List Entry} {p o : Post} (room : T < mostEvents)
       (λ s u f z. simp (relays, f .1) (omega arith))
 
   -- 8, an announcement received
-  announcement-in : j ≡ i + 1 → up W314 (p .word) ≡ true
+  announcement-in : j ≡ i + 1 → up jam (o .word) ≡ isJammed j h → up W314 (p .word) ≡ true → up jam (o .word) ≡ false
       → Moves 8 i j t h p o (pair (wordTo (lower W314 (p .word)) p) (more-r (wordTo (raise An (o .word)) o)))
   unfolding counting
-  announcement-in k a =
-      onward k
-      (λ s f k z. simp (relays, f .0, announcement-sent s h p o z a) (omega (arith, ones, r .counts, up-or-down (up RL (p .word)))))
+  announcement-in m J a b =
+      onward m
+      (λ s f k z. simp (relays, f .0, announcement-sent s h p o z a, jam-there i j s h o m J f, b) (omega (arith, ones, r .counts, up-or-down (up RL (p .word)))))
       (λ s u f z. simp (relays, f .0) (omega arith))
       (λ s d f z. simp (relays, f .0) (omega arith))
+
+  -- 8, an announcement lost to the jam
+  announcement-barred : j ≡ i + 1 → up jam (o .word) ≡ isJammed j h → up W314 (p .word) ≡ true → up jam (o .word) ≡ true
+      → Moves 8 i j t h p o (pair (more-x (wordTo (lower W314 (p .word)) p)) o)
+  unfolding counting
+  announcement-barred m J a b =
+      single refl
+      (λ s d f k z. simp (relays, f .0, announcement-sent s h p d z a, jam-there i j s h o m J f, b) (omega (arith, ones, r .counts, up-or-down (up RL (p .word)))))
+      (λ s u f z. simp (relays, f .0) (omega arith))
 
   -- 8, a release received
   release-in : up W314 (p .word) ≡ false → up W241 (p .word) ≡ true
@@ -203,7 +218,7 @@ module _ {N T i j t : ℕ} {h : List Entry} {p o : Post} (room : T < mostEvents)
   unfolding counting
   release-in a b =
       single refl
-      (λ s d f k z. simp (relays, f .0, release-sent s h p d z b) (omega (arith, ones, r .counts, up-or-down (up RL (p .word)))))
+      (λ s d f k z. simp (relays, f .0, release-sent s h p d z b, and-false) (omega (arith, ones, r .counts, up-or-down (up RL (p .word)))))
       (λ s u f z. simp (relays, f .0) (omega arith))
 
   -- 9, an announcement lost
@@ -232,23 +247,27 @@ module _ {N T i j t : ℕ} {h : List Entry} {p o : Post} (room : T < mostEvents)
       (λ s u f z. simp (relays, f .0) (omega arith))
 
 -- every case
-pub moves : {N T n i j t : ℕ} {h : List Entry} {p o : Post} {b : Pair} → T < mostEvents → PostOk N i T p → Taken i j p o n b
+pub moves : {N T n i j t : ℕ} {h : List Entry} {p o : Post} {b : Pair} → T < mostEvents → PostOk N i T p → up jam (o .word) ≡ isJammed j h
+    → Taken i j p o n b
     → Moves n i j t h p o b
-moves {p = p} room r (reverse a b) = unseen room r refl (simp relays (alike (p .word)))
-moves {p = p} room r (normalise a) = unseen room r refl (simp relays (alike (p .word)))
-moves room r (pass a b c) = passes room r b c
-moves room r (pass-idle a b) = passes-idle room r b
-moves {p = p} room r (strike-block a b) = unseen room r refl (simp relays (alike (p .word)))
-moves {p = p} room r (strike-close a b) = unseen room r refl (simp relays (alike (p .word)))
-moves {p = p} room r (strike-idle a b) = unseen room r refl (alike (p .word))
-moves room r (announce a b c) = sends room r b
-moves room r (release k a b c d e) = sends-back room r k b c
-moves room r (garage k a b c) = sends-garage room r k b c
-moves room r (announcement-arrives k a) = announcement-in room r k a
-moves room r (release-arrives k a b) = release-in room r a b
-moves room r (announcement-lost k a) = announcement-gone room r a
-moves room r (release-lost k a b) = release-gone room r a b
-moves room r (restore k a b c d) = restores room r
+moves {p = p} room r J (reverse a b) = unseen room r refl (simp relays (alike (p .word)))
+moves {p = p} room r J (normalise a) = unseen room r refl (simp relays (alike (p .word)))
+moves room r J (pass a b c) = passes room r b c
+moves room r J (pass-idle a b) = passes-idle room r b
+moves {p = p} room r J (strike-block a b) = unseen room r refl (simp relays (alike (p .word)))
+moves {p = p} room r J (strike-close a b) = unseen room r refl (simp relays (alike (p .word)))
+moves {p = p} room r J (strike-idle a b) = unseen room r refl (alike (p .word))
+moves room r J (announce a b c) = sends room r b
+moves room r J (release k a m b c d e) = sends-back room r k b c
+moves room r J (garage k a m b c) = sends-garage room r k b c
+moves room r J (announcement-arrives k a b) = announcement-in room r k J a b
+moves room r J (announcement-jammed k a b) = announcement-barred room r k J a b
+moves room r J (release-arrives k a b) = release-in room r a b
+moves room r J (announcement-lost k a) = announcement-gone room r a
+moves room r J (release-lost k a b) = release-gone room r a b
+moves room r J (restore k a b c d) = restores room r
+moves {p = p} room r J (button-jams a b) = unseen room r refl (simp relays (alike (p .word)))
+moves {p = p} room r J (button-freed a b) = unseen room r refl (simp relays (alike (p .word)))
 
 -- ---- a fresh line
 -- no count has grown, and An, KPg and the W bits are down

@@ -69,12 +69,12 @@ module _ {k : ℕ} {raises drops : ℕ → Entry → Bool} (F : Followed k raise
       (λ c. sym (F .refused i e _ (up k (at (w .line) i .word)) (ne-eqb _ 0 c)))
 
   -- every event keeps it so
-  step-says : (e : Event) (w : State) → Says w → Says (step e w)
+  pub step-says : (e : Event) (w : State) → Says w → Says (step e w)
   unfolding step isUp
   step-says e w z i = rw (← z i) (moved e w i)
 
   -- and whatever befalls the line
-  befalls-says : {w v : State} → Befalls w v → Says w → Says v
+  pub befalls-says : {w v : State} → Befalls w v → Says w → Says v
   unfolding isUp
   befalls-says {w} (given-event e) z i = step-says e w z i
   befalls-says {w} (refused-outside e n f) z i =
@@ -88,7 +88,7 @@ module _ {k : ℕ} {raises drops : ℕ → Entry → Bool} (F : Followed k raise
   fresh-down (x ∷ ks) zero = F .fresh x
   fresh-down (x ∷ ks) (suc i) = fresh-down ks i
 
-  begun-says : (l : List Post) (ks : List ℕ) (t : ℕ) → startable l ks ≡ true → Says (begun l ks t)
+  pub begun-says : (l : List Post) (ks : List ℕ) (t : ℕ) → startable l ks ≡ true → Says (begun l ks t)
   unfolding begun startOf isUp
   begun-says l ks t e i = rw e (fresh-down ks i)
 

@@ -11,7 +11,7 @@ use Rattle.relay.specs.Posts.{at, freshPost}
 use Rattle.relay.specs.declared.Pair.{Pair}
 use Rattle.relay.specs.declared.Post.{Post}
 use Rattle.relay.proofs.Accepted.{event-cases}
-use Rattle.relay.proofs.Cases.{Taken, reverse, normalise, pass, pass-idle, strike-block, strike-close, strike-idle, announce, release, garage, announcement-arrives, release-arrives, announcement-lost, release-lost, restore, accepted-case}
+use Rattle.relay.proofs.Cases.{Taken, reverse, normalise, pass, pass-idle, strike-block, strike-close, strike-idle, announce, release, garage, announcement-arrives, announcement-jammed, release-arrives, announcement-lost, release-lost, restore, button-jams, button-freed, accepted-case}
 use Rattle.relay.proofs.Frame.{taken-replaces}
 use Rattle.relay.proofs.Truth.{equal-or-not}
 use Rattle.history.specs.Run.{State, step, run, begun, Befalls, given-event, refused-outside, moved-elsewhere, Reached, at-first}
@@ -27,13 +27,16 @@ taken-kinds (strike-block a b) = (refl, refl)
 taken-kinds (strike-close a b) = (refl, refl)
 taken-kinds (strike-idle a b) = (refl, refl)
 taken-kinds (announce a b c) = (refl, refl)
-taken-kinds (release m a b c d e) = (refl, refl)
-taken-kinds (garage m a b c) = (refl, refl)
-taken-kinds (announcement-arrives m a) = (refl, refl)
+taken-kinds (release m a n b c d e) = (refl, refl)
+taken-kinds (garage m a n b c) = (refl, refl)
+taken-kinds (announcement-arrives m a b) = (refl, refl)
+taken-kinds (announcement-jammed m a b) = (refl, refl)
 taken-kinds (release-arrives m a b) = (refl, refl)
 taken-kinds (announcement-lost m a) = (refl, refl)
 taken-kinds (release-lost m a b) = (refl, refl)
 taken-kinds (restore m a b c d) = (refl, refl)
+taken-kinds (button-jams a b) = (refl, refl)
+taken-kinds (button-freed a b) = (refl, refl)
 
 -- and so does every post
 pub step-kinds : (e : Event) (w : State) (i : ℕ) → at (step e w .line) i .kind ≡ at (w .line) i .kind

@@ -113,7 +113,7 @@ unblocked {q = q} r k o (sent a m y e z c) = absurd (false≢true (sym (r .word 
 unblocked r k o (freed f) = f
 
 -- ---- an entry of event n taken at i
-did-facts : (n i : ℕ) (x : Entry) → did n i x ≡ true → (x .answer ≡ 0) × ((x .event .number ≡ n) × (x .event .post ≡ i))
+pub did-facts : (n i : ℕ) (x : Entry) → did n i x ≡ true → (x .answer ≡ 0) × ((x .event .number ≡ n) × (x .event .post ≡ i))
 unfolding did
 did-facts n i x d = simp facts at d
 
@@ -202,7 +202,7 @@ befalls-order i {w} (refused-outside e n f) r o = more-order (outside-comes i e 
 befalls-order i (moved-elsewhere s f g) r o = o
 
 -- a history with no entries has no strike and no opening
-none : (m : List Entry) (x : Entry) (b : List Entry) → [] ≡ m ++ (x ∷ b) → ⊥
+pub none : (m : List Entry) (x : Entry) (b : List Entry) → [] ≡ m ++ (x ∷ b) → ⊥
 none [] x b z = let o : _≡_ {A = ℕ} 0 1 = cc in omega arith
 none (y ∷ m) x b z = let o : _≡_ {A = ℕ} 0 1 = cc in omega arith
 

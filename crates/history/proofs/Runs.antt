@@ -8,8 +8,9 @@ use native.Mathlib.Omega.{arith}
 use borrow.Author.Tests.{eq-eqb, ne-eqb}
 use lib.ListN.{length, getD}
 use Rattle.relay.specs.Examples.{Event}
-use Rattle.relay.specs.Line.{freshLine, startable, startOf, changedLine, head}
+use Rattle.relay.specs.Line.{neighbour, freshLine, startable, startOf, changedLine, head}
 use Rattle.relay.specs.Posts.{at, freshPost}
+use Rattle.relay.specs.Relays.{jam, up}
 use Rattle.relay.specs.Valid.{valid}
 use Rattle.relay.specs.declared.Head.{Head}
 use Rattle.relay.specs.declared.Pair.{Pair}
@@ -21,9 +22,11 @@ use Rattle.relay.proofs.Frame.{Replaced, taken-replaces, length-stays}
 use Rattle.relay.proofs.Fresh.{length-fresh}
 use Rattle.relay.proofs.Kept.{event-keeps, later-valid, fresh-valid}
 use Rattle.relay.proofs.Truth.{equal-or-not}
-use Rattle.history.specs.History.{Entry}
+use Rattle.history.specs.History.{Entry, isJammed}
 use Rattle.history.specs.Run.{State, next, step, run, begun, Befalls, given-event, refused-outside, moved-elsewhere, Reached, at-first}
 use Rattle.history.proofs.Agrees.{Agrees, Below, Above, Apart, more, apart, refused, Moves, single, back, onward, moves, fresh-agrees}
+use Rattle.history.proofs.Followed.{step-says, befalls-says, begun-says}
+use Rattle.history.proofs.Jam.{jam-followed}
 use Rattle.history.proofs.Reached.{always, run-reached}
 
 -- ---- the line l′ that an event n at post i leaves of l, its neighbour being post j
@@ -110,23 +113,25 @@ module _ {i j : ℕ} {b : Pair} (n t : ℕ) (h : List Entry) (l l′ : List Post
       (λ e. apart-moves (ne-eqb i s d, ne-eqb i (s + 1) e) d e m))
 
 -- ---- a state
--- the line is valid, and each section agrees with the history
+-- the line is valid, and each button and each section agrees with the history
 pub record Sound (w : State) : Type 0 where
   pub valid : valid (w .line) (w .head) ≡ true
+  pub jams : (i : ℕ) → up jam (at (w .line) i .word) ≡ isJammed i (w .history)
   pub agrees : (s : ℕ) → s + 1 < length (w .line) → Agrees s (w .history) (at (w .line) s) (at (w .line) (s + 1))
 
 -- an event keeps the agreement of each section
-event-agrees : (e : Event) (h : List Entry) (l : List Post) (v : Head) (s : ℕ) → s + 1 < length l → Agrees s h (at l s) (at l (s + 1))
+event-agrees : (e : Event) (h : List Entry) (l : List Post) (v : Head) → ((i : ℕ) → up jam (at l i .word) ≡ isJammed i h)
+    → (s : ℕ) → s + 1 < length l → Agrees s h (at l s) (at l (s + 1))
     → Agrees s (step e (record { history = h; line = l; head = v }) .history)
     (at (step e (record { history = h; line = l; head = v }) .line) s)
     (at (step e (record { history = h; line = l; head = v }) .line) (s + 1))
 unfolding step
-event-agrees e h l v s k z =
+event-agrees e h l v J s k z =
     event-cases (λ a. Agrees s (next e h a .history) (at (a .line) s) (at (a .line) (s + 1))) l v (e .number) (e .post) (e .stamp)
     (λ c.
     section-moves (e .number) (e .stamp) h l (changedLine l (e .number) (e .post)) (taken-replaces l v (e .number) (e .post) (e .stamp) c)
     s (c .valid .sections s k) z
-    (moves (c .room) (c .valid .each (e .post) (c .place)) (accepted-case l v (e .number) (e .post) (e .stamp) c)))
+    (moves (c .room) (c .valid .each (e .post) (c .place)) (J (neighbour (e .number) (e .post))) (accepted-case l v (e .number) (e .post) (e .stamp) c)))
     (λ c. refused e _ h s (at l s) (at l (s + 1)) (ne-eqb _ 0 c) z)
 
 -- no event alters the number of posts
@@ -140,9 +145,10 @@ unfolding step
 step-sound e w r =
     record {
       valid = event-keeps (w .line) (w .head) (e .number) (e .post) (e .stamp) (r .valid);
+      jams = step-says jam-followed e w (r .jams);
       agrees = λ s k.
           let fits : s + 1 < length (w .line) = omega (arith, step-length e w) in
-          event-agrees e (w .history) (w .line) (w .head) s fits (r .agrees s fits);
+          event-agrees e (w .history) (w .line) (w .head) (r .jams) s fits (r .agrees s fits);
     }
 
 -- whatever befalls the line keeps both
@@ -151,11 +157,12 @@ befalls-sound {w} (given-event e) r = step-sound e w r
 befalls-sound {w} (refused-outside e n f) r =
     record {
       valid = r .valid;
+      jams = befalls-says jam-followed {w = w} (refused-outside e n f) (r .jams);
       agrees = λ s k.
           refused e n (w .history) s (at (w .line) s) (at (w .line) (s + 1)) (ne-eqb n 0 (λ z. omega arith)) (r .agrees s k);
     }
 befalls-sound {w} (moved-elsewhere s f g) r =
-    record { valid = later-valid (w .line) (w .head) s (omega arith) (omega arith) (r .valid); agrees = r .agrees }
+    record { valid = later-valid (w .line) (w .head) s (omega arith) (omega arith) (r .valid); jams = r .jams; agrees = r .agrees }
 
 -- nothing alters the number of posts
 befalls-length : {w v : State} → Befalls w v → length (v .line) ≡ length (w .line)
@@ -199,6 +206,7 @@ begun-sound l ks t e =
     rw e
     (record {
       valid = fresh-valid l ks t e;
+      jams = rw e at (begun-says jam-followed l ks t e);
       agrees = λ s k.
           let x : s + 1 < length ks = omega (arith, length-fresh ks) in
           rw (fresh-at ks s (omega arith), fresh-at ks (s + 1) x) (fresh-agrees s (getD ks s 0) (getD ks (s + 1) 0));

@@ -16,7 +16,7 @@ use Rattle.relay.proofs.Cases.{reverse, normalise, strike-block, strike-close, 
 use Rattle.relay.proofs.Touched.{touched, here-stays, other-stays}
 use Rattle.relay.proofs.Truth.{equal-or-not, split, pick-same}
 use Rattle.relay.proofs.Word.{relays}
-use Rattle.history.specs.History.{entry, did, opens, closes, isOpen}
+use Rattle.history.specs.History.{did, closes, isOpen}
 use Rattle.history.specs.Run.{State, run, begun, Reached, at-first}
 use Rattle.history.proofs.Agrees.{and-false}
 use Rattle.history.proofs.Followed.{Moves, Followed, reached-says}
@@ -25,25 +25,25 @@ use Rattle.history.proofs.Reached.{run-reached}
 -- event n makes of the signal of the post named what its entry says
 module _ (i t m : ℕ) where
   abbrev By : ℕ → Type 0
-  By n = Moves signal opens closes i t m n
+  By n = Moves signal (did 1) closes i t m n
 
   by-reversing : By 1
-  unfolding opens closes did
+  unfolding closes did
   by-reversing j p o b f r (reverse x y) = simp (relays, f)
 
   by-normalising : By 2
-  unfolding opens closes did
+  unfolding closes did
   by-normalising j p o b f r (normalise x) = simp (relays, f)
 
   by-striking : By 4
-  unfolding opens closes did
+  unfolding closes did
   by-striking j p o b f r (strike-block x y) = simp (relays, f)
   by-striking j p o b f r (strike-close x y) = simp (relays, f)
   by-striking j p o b f r (strike-idle x y) =
       simp f (split (up signal (p .word)) (λ c. absurd (false≢true (sym y ∙ r .open-reversed c))) (λ c. c))
 
   by-any : (n : ℕ) → By n
-  unfolding opens closes did touched
+  unfolding closes did touched
   by-any n j p o b f r T =
       equal-or-not n 1
       (λ x. rw x (by-reversing j p o b f r (rw x at T)))
@@ -60,8 +60,8 @@ module _ (i t m : ℕ) where
       simp (one, two, four) (here-stays T signal refl (simp (one, two, four, pick-same))))))
 
 -- the signal is one that the history says
-signal-followed : Followed signal opens closes
-unfolding opens closes did freshWord up raise
+signal-followed : Followed signal (did 1) closes
+unfolding closes did freshWord up raise
 signal-followed =
     record {
       here = by-any;

@@ -15,13 +15,13 @@ use Rattle.relay.specs.Relays.{L, RL, up}
 use Rattle.relay.specs.declared.Pair.{Pair}
 use Rattle.relay.specs.declared.Post.{Post}
 use Rattle.relay.proofs.Accepted.{event-cases}
-use Rattle.relay.proofs.Cases.{Taken, reverse, normalise, pass, pass-idle, strike-block, strike-close, strike-idle, announce, release, garage, announcement-arrives, release-arrives, announcement-lost, release-lost, restore, accepted-case}
+use Rattle.relay.proofs.Cases.{Taken, reverse, normalise, pass, pass-idle, strike-block, strike-close, strike-idle, announce, release, garage, announcement-arrives, announcement-jammed, release-arrives, announcement-lost, release-lost, restore, button-jams, button-freed, accepted-case}
 use Rattle.relay.proofs.Facts.{SectionOk}
 use Rattle.relay.proofs.Frame.{taken-replaces, neighbour-within}
 use Rattle.relay.proofs.Touched.{other-stays}
 use Rattle.relay.proofs.Truth.{ones, up-or-down, split, equal-or-not}
 use Rattle.relay.proofs.Word.{relays}
-use Rattle.history.specs.History.{Entry, entry, did, announces, receives}
+use Rattle.history.specs.History.{Entry, entry, did, announces, jamLoses, receives}
 use Rattle.history.specs.Run.{State, given, answer}
 use Rattle.history.proofs.Agrees.{Agrees, release-sent}
 use Rattle.history.proofs.Runs.{Sound}
@@ -38,7 +38,7 @@ pub data Turn (i : ℕ) (h : List Entry) (x : Entry) (q q′ : Post) : Type 0 wh
 -- the post named
 turn-here : {n i k j t : ℕ} {h : List Entry} {p o : Post} {b : Pair} → eqb k i ≡ true → (j ≡ k + 1 → SectionOk p o × Agrees i h p o) → Taken k j p o n b
     → Turn i h (entry (ev-at n k t) 0) p (b .here)
-unfolding announces receives did
+unfolding announces receives jamLoses did
 turn-here f z (reverse a b) = quiet (λ e. simp relays e) (simp relays)
 turn-here f z (normalise a) = quiet (λ e. simp relays e) (simp relays)
 turn-here f z (pass a b c) = quiet (λ e. simp relays e) (simp relays)
@@ -47,9 +47,10 @@ turn-here f z (strike-block a b) = quiet (λ e. simp relays) (simp relays)
 turn-here f z (strike-close a b) = quiet (λ e. simp relays e) (simp relays)
 turn-here f z (strike-idle a b) = quiet (λ e. e) refl
 turn-here f z (announce a b c) = sends (simp f) (simp relays)
-turn-here f z (release m a b c d e) = quiet (λ e. simp relays e) (simp relays)
-turn-here f z (garage m a b c) = quiet (λ e. simp relays e) (simp relays)
-turn-here f z (announcement-arrives m a) = quiet (λ e. simp relays e) (simp relays)
+turn-here f z (release m a n b c d e) = quiet (λ e. simp relays e) (simp relays)
+turn-here f z (garage m a n b c) = quiet (λ e. simp relays e) (simp relays)
+turn-here f z (announcement-arrives m a b) = quiet (λ e. simp relays e) (simp relays)
+turn-here f z (announcement-jammed m a b) = quiet (λ e. simp relays e) (simp relays)
 turn-here {i = i} {h = h} {p = p} {o = o} f z (release-arrives m a b) =
     let k = z m in
     frees
@@ -58,6 +59,8 @@ turn-here {i = i} {h = h} {p = p} {o = o} f z (release-arrives m a b) =
 turn-here f z (announcement-lost m a) = quiet (λ e. simp relays e) (simp relays)
 turn-here f z (release-lost m a b) = quiet (λ e. simp relays e) (simp relays)
 turn-here f z (restore m a b c d) = frees a (simp f)
+turn-here f z (button-jams a b) = quiet (λ e. simp relays e) (simp relays)
+turn-here f z (button-freed a b) = quiet (λ e. simp relays e) (simp relays)
 
 -- its neighbour
 turn-other : {n i k j t : ℕ} {h : List Entry} {p o : Post} {b : Pair} → Taken k j p o n b → Turn i h (entry (ev-at n k t) 0) o (b .other)

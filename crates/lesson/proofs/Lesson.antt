@@ -2,7 +2,7 @@
 -- The states of working are reached from a line just started, event by event; so each theorem of the history is one of the sheet.
 use Prim.Native.Nat.{ℕ, suc, _+_, _-_, _<_}
 use mathlib.Core.Path.{_≡_, refl, ap, subst, _∙_}
-use mathlib.Core.Bool.{true}
+use mathlib.Core.Bool.{true, false, _||_}
 use mathlib.Core.List.{List, [], _∷_, _++_}
 use native.Mathlib.Nat.{zero-add}
 use native.Mathlib.Omega.{arith}
@@ -14,15 +14,17 @@ use Rattle.relay.specs.Examples.{blanks}
 use Rattle.relay.specs.Kinds.{tableOk, blocksAtPedal}
 use Rattle.relay.specs.Line.{After, head, startable, startOf}
 use Rattle.relay.specs.Posts.{at}
+use Rattle.relay.specs.Relays.{An, up}
 use Rattle.relay.specs.declared.Head.{Head}
 use Rattle.relay.specs.declared.Post.{Post}
 use Rattle.relay.proofs.Frame.{refused-alters-nothing, head-moves}
 use Rattle.relay.proofs.Truth.{split}
-use Rattle.history.specs.History.{Entry, entry, did, isOpen, tally}
+use Rattle.history.specs.History.{Entry, entry, did, isOpen, announced, tally}
 use Rattle.history.specs.Run.{State, step, given-event, Reached, at-first, further}
 use Rattle.history.specs.Run as hist
-use Rattle.history.specs.Demand.{Counted, Ends, Conserved, HeldByOne, Locked, Freed}
+use Rattle.history.specs.Demand.{Counted, Ends, Conserved, HeldByOne, Locked, Freed, Unjammed}
 use Rattle.history.proofs.Ledger as ledger
+use Rattle.history.proofs.Jammed.{reached-not-released, reached-not-recorded}
 use Rattle.history.proofs.Reopened.{reached-not-reopened}
 use Rattle.history.proofs.Runs.{reached-length, begun-length}
 use Rattle.sheet.specs.Entry.{numberOf, postOf, stampOf}
@@ -106,6 +108,18 @@ module _ (ks : List ℕ) (t : ℕ) (right : tableOk ks ≡ true) where
         → did 1 i y ≡ true → did 4 i x ≡ true → isOpen i b ≡ true
         → Freed i (m ++ (x ∷ b)) (x ∷ b)
     reopened = reached-not-reopened (blanks ks) ks t starts reached
+
+    -- no release is taken at a post between its jam and its freeing, nor does An rise there
+    pub released : (i : ℕ) (later : List Entry) (y : Entry) (m : List Entry) (x : Entry) (b : List Entry)
+        → told ≡ later ++ (y ∷ (m ++ (x ∷ b)))
+        → (did 6 i y || did 7 i y) ≡ true → did 11 i x ≡ true
+        → Unjammed i m
+    released = reached-not-released (blanks ks) ks t starts reached
+
+    pub recorded : (s : ℕ) → s + 1 < length ks → (m : List Entry) (x : Entry) (b : List Entry) → told ≡ m ++ (x ∷ b)
+        → did 11 (s + 1) x ≡ true → announced s b ≡ false → up An (post (s + 1) .word) ≡ true
+        → Unjammed (s + 1) m
+    recorded = reached-not-recorded (blanks ks) ks t starts reached
 
     -- the listing's line of a section
     pub section-says : (s : ℕ) → s + 1 < length ks → sectionNumbers s (post s) (post (s + 1)) ≡ sectionSays s told (post s)

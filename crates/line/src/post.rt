@@ -9,7 +9,7 @@ use relay::Post;
 pub fn no_other_bits(w: u32) -> bool
     ensures { λ r. ⌜ r ≡ noOtherBits w ⌝ }
 {
-    w < 256
+    w < relay::ALL + 1
 }
 
 pub fn stays_down(kind: u32, w: u32) -> bool
@@ -17,7 +17,7 @@ pub fn stays_down(kind: u32, w: u32) -> bool
 {
     needs(
         kind == relay::ORIGIN,
-        (w & relay::AN == 0) & (w & relay::KPG == 0),
+        (w & relay::AN == 0) & (w & relay::KPG == 0) & (w & relay::JAM == 0),
     )
         & needs(
             kind == relay::TERMINUS,

@@ -1,4 +1,4 @@
--- An event that is taken: its answer is 0 exactly when the line may be used and none of the refusals 2 to 17 is given; and what an event is then, and else.
+-- An event that is taken: its answer is 0 exactly when the line may be used and none of the refusals 2 to 17, 22 and 23 is given; and what an event is then, and else.
 -- Each holds by going down the order of the refusals.
 use Prim.Native.Nat.{ℕ, _+_, _≤_, _<_}
 use mathlib.Core.Path.{_≡_, refl}
@@ -36,7 +36,7 @@ pub record Accepted (l : List Post) (s : Head) (n i t : ℕ) : Type 0 where
   pub room : s .taken < mostEvents
   -- not 4: the stamp is not behind the last
   pub stamp : behind (s .last) t ≡ false
-  -- neither 6 nor one of the event's own list
+  -- neither 6, 22 or 23 nor one of the event's own list
   pub own : refusal n (at l i .kind) (at l i .word) (at l (neighbour n i) .word) ≡ 0
 
 -- the answer is 0 exactly when these are known

@@ -1,5 +1,5 @@
 -- The events by cases: for an event that is taken, which of its outcomes it has, what is known there, and the two records that it makes.
--- A theorem over events goes by these fifteen cases, unfolds no rule and asks for no number: a case says itself where the neighbour lies that it alters. Each holds because no refusal of the event's own list is given.
+-- A theorem over events goes by these eighteen cases, unfolds no rule and asks for no number: a case says itself where the neighbour lies that it alters. Each holds because no refusal of the event's own list is given.
 use Prim.Native.Nat.{ℕ, _+_, _≤_}
 use mathlib.Core.Path.{_≡_, refl, sym, _∙_}
 use mathlib.Core.Logic.{_↔_}
@@ -9,17 +9,17 @@ use native.Mathlib.Omega.{arith}
 use borrow.Author.Tests.{eqb-true}
 use lib.Dec.{eqb}
 use Rattle.relay.specs.Choice.{grown}
-use Rattle.relay.specs.Events.{pair, reversed, normal, passed, struck, announced, released, garaged, releaseUnderWay, arrived, lost, restored, lacks, ownRefusal, refusal, changed}
+use Rattle.relay.specs.Events.{pair, reversed, normal, passed, struck, announced, released, garaged, releaseUnderWay, arrived, lost, restored, jammed, freed, lacks, jamHinders, nothingToFree, ownRefusal, refusal, changed}
 use Rattle.relay.specs.Kinds.{origin, terminus, hasSignalPedal, hasPassagePedal, hasGarageRelease, blocksAtPedal}
 use Rattle.relay.specs.Line.{lastEvent, namesSection, neighbour}
 use Rattle.relay.specs.Posts.{at, post, wordTo, more-a, more-x, more-y, more-v, more-g, more-r, more-q}
-use Rattle.relay.specs.Relays.{An, KPg, L, RL, lever, signal, W314, W241, up, raise, lower}
+use Rattle.relay.specs.Relays.{An, KPg, L, RL, lever, signal, W314, W241, jam, up, raise, lower}
 use Rattle.relay.specs.declared.Head.{Head}
 use Rattle.relay.specs.declared.Pair.{Pair}
 use Rattle.relay.specs.declared.Post.{Post}
 use Rattle.relay.proofs.Accepted.{Accepted, reverse-iff, normal-iff, announce-iff, release-iff, garage-iff, under-way-iff, restore-iff}
 use Rattle.relay.proofs.Frame.{neighbour-section, neighbour-post}
-use Rattle.relay.proofs.Truth.{facts, unless-facts, or-facts, from, by}
+use Rattle.relay.proofs.Truth.{facts, not-false-facts, unless-facts, or-facts, from, by}
 
 -- 6 and 7 at the post named: 'An and KPg drop, e grows by 1', with c afterwards
 abbrev pub sentBack : ℕ → Post → Post
@@ -54,16 +54,19 @@ pub data Taken (i j : ℕ) (p o : Post) : ℕ → Pair → Type 0 where
   announce : (p .kind ≡ terminus → ⊥) → up RL (p .word) ≡ true → up lever (p .word) ≡ false
       → Taken i j p o 5 (pair (more-a (wordTo (raise W314 (lower L (lower RL (p .word)))) p)) o)
   -- 6. Release: 'An and KPg drop, W241 of the section upstream rises, e grows by 1.'
-  release : i ≡ j + 1 → (p .kind ≡ origin → ⊥) → up An (p .word) ≡ true → up KPg (p .word) ≡ true
+  release : i ≡ j + 1 → (p .kind ≡ origin → ⊥) → up jam (p .word) ≡ false → up An (p .word) ≡ true → up KPg (p .word) ≡ true
       → (p .kind ≡ terminus → up lever (p .word) ≡ false)
       → ((p .kind ≡ terminus → ⊥) → up RL (p .word) ≡ false)
       → Taken i j p o 6 (pair (sentBack (p .c) p) (underWay o))
   -- 7. Garage release: 'As 6, and c grows by 1.'
-  garage : i ≡ j + 1 → hasGarageRelease (p .kind) ≡ true → up An (p .word) ≡ true → up KPg (p .word) ≡ true
+  garage : i ≡ j + 1 → hasGarageRelease (p .kind) ≡ true → up jam (p .word) ≡ false → up An (p .word) ≡ true → up KPg (p .word) ≡ true
       → Taken i j p o 7 (pair (sentBack (grown (p .c)) p) (underWay o))
   -- 8. Arrival: 'W314: it drops, An downstream rises, r grows by 1.'
-  announcement-arrives : j ≡ i + 1 → up W314 (p .word) ≡ true
+  announcement-arrives : j ≡ i + 1 → up W314 (p .word) ≡ true → up jam (o .word) ≡ false
       → Taken i j p o 8 (pair (wordTo (lower W314 (p .word)) p) (more-r (wordTo (raise An (o .word)) o)))
+  -- 'An announcement arriving at a jammed post clears from the circuit and is counted in x'
+  announcement-jammed : j ≡ i + 1 → up W314 (p .word) ≡ true → up jam (o .word) ≡ true
+      → Taken i j p o 8 (pair (more-x (wordTo (lower W314 (p .word)) p)) o)
   -- 'W241: it drops, L and RL rise, v grows by 1.'
   release-arrives : j ≡ i + 1 → up W314 (p .word) ≡ false → up W241 (p .word) ≡ true
       → Taken i j p o 8 (pair (more-v (wordTo (raise RL (raise L (lower W241 (p .word)))) p)) o)
@@ -74,6 +77,10 @@ pub data Taken (i j : ℕ) (p o : Post) : ℕ → Pair → Type 0 where
   -- 10. Restoration: 'L and RL rise, g grows by 1.'
   restore : j ≡ i + 1 → up RL (p .word) ≡ false → up W314 (p .word) ≡ false → up W241 (p .word) ≡ false → up An (o .word) ≡ false
       → Taken i j p o 10 (pair (more-g (wordTo (raise RL (raise L (p .word))) p)) o)
+  -- 11. The button jams
+  button-jams : (p .kind ≡ origin → ⊥) → up jam (p .word) ≡ false → Taken i j p o 11 (pair (wordTo (raise jam (p .word)) p) o)
+  -- 12. It is freed
+  button-freed : (p .kind ≡ origin → ⊥) → up jam (p .word) ≡ true → Taken i j p o 12 (pair (wordTo (lower jam (p .word)) p) o)
 
 -- ---- each event that is taken is in one of its cases
 -- a garage release is at kind 2 or 3
@@ -81,11 +88,19 @@ pub garage-kind : (k : ℕ) → hasGarageRelease k ≡ true → (2 ≤ k) × (k 
 unfolding hasGarageRelease
 garage-kind k = or-facts (eqb k 2) (eqb k 3) (λ e. omega (arith, eqb-true)) (λ e. omega (arith, eqb-true))
 
--- neither 6 nor one of the event's own list is given
-own-iff : (p o : Post) (n : ℕ)
-    → (refusal n (p .kind) (p .word) (o .word) ≡ 0) ↔ ((lacks n (p .kind) ≡ false) × (ownRefusal n (p .kind) (p .word) (o .word) ≡ 0))
+-- what is known of event n where neither 6, 22 or 23 nor one of its own list is given
+abbrev Unrefused : Post → Post → ℕ → Type 0
+Unrefused p o n =
+    (lacks n (p .kind) ≡ false) × (ownRefusal n (p .kind) (p .word) (o .word) ≡ 0)
+    × (jamHinders n (p .word) ≡ false)
+    × (nothingToFree n (p .word) ≡ false)
+
+own-iff : (p o : Post) (n : ℕ) → (refusal n (p .kind) (p .word) (o .word) ≡ 0) ↔ Unrefused p o n
 unfolding refusal
-own-iff p o n = unless-facts (lacks n (p .kind)) 6 (ownRefusal n (p .kind) (p .word) (o .word)) refl
+own-iff p o n = (
+  λ e. let f = simp unless-facts at e in (f .0, f .1 .1 .1, f .1 .0, f .1 .1 .0),
+  λ f. simp unless-facts (f .0, (f .2, (f .3, f .1))),
+)
 
 -- event by event, p being post i: here alone the event's number tells where its neighbour lies
 module _ (i : ℕ) (p o : Post) (first : i ≡ 0 → p .kind ≡ origin) where
@@ -95,7 +110,7 @@ module _ (i : ℕ) (p o : Post) (first : i ≡ 0 → p .kind ≡ origin) where
 
   -- event n, not refused, is in one of its cases
   abbrev Is : ℕ → Type 0
-  Is n = (lacks n (p .kind) ≡ false) × (ownRefusal n (p .kind) (p .word) (o .word) ≡ 0) → Case n (changed n p o)
+  Is n = Unrefused p o n → Case n (changed n p o)
 
   is-reverse : Is 1
   unfolding changed ownRefusal reversed
@@ -140,23 +155,26 @@ module _ (i : ℕ) (p o : Post) (first : i ≡ 0 → p .kind ≡ origin) where
       announce (simp facts at (e .0)) (f .0) (f .1)
 
   is-release : Is 6
-  unfolding changed lacks ownRefusal released releaseUnderWay namesSection
+  unfolding changed lacks jamHinders ownRefusal released releaseUnderWay namesSection
   is-release e =
       let f = release-iff (p .kind) (p .word) .0 (e .1) in
       let k = simp facts at (e .0) in
-      release (neighbour-post 6 i refl (λ z. k (first z))) k (f .0) (f .1 .0) (f .1 .1 .0) (f .1 .1 .1)
+      release (neighbour-post 6 i refl (λ z. k (first z))) k (e .2) (f .0) (f .1 .0) (f .1 .1 .0) (f .1 .1 .1)
 
   is-garage : Is 7
-  unfolding changed lacks ownRefusal garaged released releaseUnderWay namesSection
+  unfolding changed lacks jamHinders ownRefusal garaged released releaseUnderWay namesSection
   is-garage e =
       let f = garage-iff (p .word) .0 (e .1) in
       let k = simp facts at (e .0) in
-      garage (neighbour-post 7 i refl (λ z. omega (arith, first z, garage-kind (p .kind) k))) k (f .0) (f .1)
+      garage (neighbour-post 7 i refl (λ z. omega (arith, first z, garage-kind (p .kind) k))) k (e .2) (f .0) (f .1)
 
   is-arrival : Is 8
   unfolding changed ownRefusal arrived namesSection
   is-arrival e =
-      by (λ b. Case 8 b) (up W314 (p .word)) (announcement-arrives (neighbour-section 8 i refl))
+      by (λ b. Case 8 b) (up W314 (p .word))
+      (λ a.
+      by (λ b. Case 8 b) (up jam (o .word)) (announcement-jammed (neighbour-section 8 i refl) a)
+      (announcement-arrives (neighbour-section 8 i refl) a))
       (λ b. release-arrives (neighbour-section 8 i refl) b (under-way-iff (p .word) .0 (e .1) b))
 
   is-loss : Is 9
@@ -171,6 +189,14 @@ module _ (i : ℕ) (p o : Post) (first : i ≡ 0 → p .kind ≡ origin) where
       let f = restore-iff (p .word) (o .word) .0 (e .1) in
       restore (neighbour-section 10 i refl) (f .0) (f .1 .0 .0) (f .1 .0 .1) (f .1 .1)
 
+  is-jam : Is 11
+  unfolding changed lacks jamHinders jammed
+  is-jam e = button-jams (simp facts at (e .0)) (e .2)
+
+  is-freeing : Is 12
+  unfolding changed lacks nothingToFree freed
+  is-freeing e = button-freed (simp facts at (e .0)) (not-false-facts (up jam (p .word)) .0 (e .3))
+
   -- every event number
   pub taken-cases : (n : ℕ) → 1 ≤ n → n ≤ lastEvent → refusal n (p .kind) (p .word) (o .word) ≡ 0 → Case n (changed n p o)
   taken-cases n h k e =
@@ -181,7 +207,10 @@ module _ (i : ℕ) (p o : Post) (first : i ≡ 0 → p .kind ≡ origin) where
       (from Is lastEvent 5 is-announce
       (from Is lastEvent 6 is-release
       (from Is lastEvent 7 is-garage
-      (from Is lastEvent 8 is-arrival (from Is lastEvent 9 is-loss (from Is lastEvent 10 is-restore (λ n h k. absurd (omega arith)))))))))))
+      (from Is lastEvent 8 is-arrival
+      (from Is lastEvent 9 is-loss
+      (from Is lastEvent 10 is-restore
+      (from Is lastEvent 11 is-jam (from Is lastEvent 12 is-freeing (λ n h k. absurd (omega arith)))))))))))))
       n h k (own-iff p o n .0 e)
 
 -- an event that is taken on a line is in one of its cases
@@ -202,24 +231,28 @@ pedal-there k = or-facts (eqb k 0) (eqb k 2) (λ e. rw (eqb-true k 0 e)) (λ e. 
 
 -- each case
 pub case-taken : {p o : Post} {i j n : ℕ} {b : Pair} → Taken i j p o n b → Made p o n b
-unfolding changed lacks ownRefusal reversed normal passed struck announced released garaged releaseUnderWay arrived lost restored hasPassagePedal hasSignalPedal blocksAtPedal
-case-taken {p} {o} (reverse a b) = (own-iff p o 1 .1 (refl, reverse-iff (p .kind) (p .word) .1 (a, b)), refl)
-case-taken {p} {o} (normalise a) = (own-iff p o 2 .1 (refl, normal-iff (p .word) .1 a), refl)
-case-taken {p} {o} (pass a b c) = (own-iff p o 3 .1 (simp facts a, refl), rw (b, c))
+unfolding changed lacks jamHinders nothingToFree ownRefusal reversed normal passed struck announced released garaged releaseUnderWay arrived lost restored jammed freed hasPassagePedal hasSignalPedal blocksAtPedal
+case-taken {p} {o} (reverse a b) = (own-iff p o 1 .1 (refl, reverse-iff (p .kind) (p .word) .1 (a, b), refl, refl), refl)
+case-taken {p} {o} (normalise a) = (own-iff p o 2 .1 (refl, normal-iff (p .word) .1 a, refl, refl), refl)
+case-taken {p} {o} (pass a b c) = (own-iff p o 3 .1 (simp facts a, refl, refl, refl), rw (b, c))
 case-taken {p} {o} (pass-idle a b) =
     let z : (up An (p .word) && not (up KPg (p .word))) ≡ false = simp facts b in
-    (own-iff p o 3 .1 (simp facts a, refl), rw z)
-case-taken {p} {o} (strike-block a b) = (own-iff p o 4 .1 (pedal-there (p .kind) a, refl), rw (b, a))
-case-taken {p} {o} (strike-close a b) = (own-iff p o 4 .1 (rw a, refl), rw (b, a))
-case-taken {p} {o} (strike-idle a b) = (own-iff p o 4 .1 (simp facts a, refl), rw b)
-case-taken {p} {o} (announce a b c) = (own-iff p o 5 .1 (simp facts a, announce-iff (p .word) .1 (b, c)), refl)
-case-taken {p} {o} (release k a b c d e) =
-    (own-iff p o 6 .1 (simp facts a, release-iff (p .kind) (p .word) .1 (b, (c, (d, e)))), refl)
-case-taken {p} {o} (garage k a b c) = (own-iff p o 7 .1 (simp facts a, garage-iff (p .word) .1 (b, c)), refl)
-case-taken {p} {o} (announcement-arrives k a) =
-    (own-iff p o 8 .1 (refl, under-way-iff (p .word) .1 (λ z. absurd (false≢true (sym z ∙ a)))), rw a)
-case-taken {p} {o} (release-arrives k a b) = (own-iff p o 8 .1 (refl, under-way-iff (p .word) .1 (λ z. b)), rw a)
+    (own-iff p o 3 .1 (simp facts a, refl, refl, refl), rw z)
+case-taken {p} {o} (strike-block a b) = (own-iff p o 4 .1 (pedal-there (p .kind) a, refl, refl, refl), rw (b, a))
+case-taken {p} {o} (strike-close a b) = (own-iff p o 4 .1 (rw a, refl, refl, refl), rw (b, a))
+case-taken {p} {o} (strike-idle a b) = (own-iff p o 4 .1 (simp facts a, refl, refl, refl), rw b)
+case-taken {p} {o} (announce a b c) = (own-iff p o 5 .1 (simp facts a, announce-iff (p .word) .1 (b, c), refl, refl), refl)
+case-taken {p} {o} (release k a m b c d e) =
+    (own-iff p o 6 .1 (simp facts a, release-iff (p .kind) (p .word) .1 (b, (c, (d, e))), m, refl), refl)
+case-taken {p} {o} (garage k a m b c) = (own-iff p o 7 .1 (simp facts a, garage-iff (p .word) .1 (b, c), m, refl), refl)
+case-taken {p} {o} (announcement-arrives k a b) =
+    (own-iff p o 8 .1 (refl, under-way-iff (p .word) .1 (λ z. absurd (false≢true (sym z ∙ a))), refl, refl), rw (a, b))
+case-taken {p} {o} (announcement-jammed k a b) =
+    (own-iff p o 8 .1 (refl, under-way-iff (p .word) .1 (λ z. absurd (false≢true (sym z ∙ a))), refl, refl), rw (a, b))
+case-taken {p} {o} (release-arrives k a b) = (own-iff p o 8 .1 (refl, under-way-iff (p .word) .1 (λ z. b), refl, refl), rw a)
 case-taken {p} {o} (announcement-lost k a) =
-    (own-iff p o 9 .1 (refl, under-way-iff (p .word) .1 (λ z. absurd (false≢true (sym z ∙ a)))), rw a)
-case-taken {p} {o} (release-lost k a b) = (own-iff p o 9 .1 (refl, under-way-iff (p .word) .1 (λ z. b)), rw a)
-case-taken {p} {o} (restore k a b c d) = (own-iff p o 10 .1 (refl, restore-iff (p .word) (o .word) .1 (a, ((b, c), d))), refl)
+    (own-iff p o 9 .1 (refl, under-way-iff (p .word) .1 (λ z. absurd (false≢true (sym z ∙ a))), refl, refl), rw a)
+case-taken {p} {o} (release-lost k a b) = (own-iff p o 9 .1 (refl, under-way-iff (p .word) .1 (λ z. b), refl, refl), rw a)
+case-taken {p} {o} (restore k a b c d) = (own-iff p o 10 .1 (refl, restore-iff (p .word) (o .word) .1 (a, ((b, c), d)), refl, refl), refl)
+case-taken {p} {o} (button-jams a b) = (own-iff p o 11 .1 (simp facts a, refl, b, refl), refl)
+case-taken {p} {o} (button-freed a b) = (own-iff p o 12 .1 (simp facts a, refl, refl, not-false-facts (up jam (p .word)) .1 b), refl)

@@ -14,7 +14,7 @@ use lib.ListN.{length}
 use Rattle.relay.specs.Choice.{one}
 use Rattle.relay.specs.Kinds.{origin, terminus, intermediate, blocksAtPedal, blocksAtAnnouncement, between, countFits, kindFits}
 use Rattle.relay.specs.Posts.{at}
-use Rattle.relay.specs.Relays.{An, KPg, L, RL, lever, signal, W314, W241, width, up}
+use Rattle.relay.specs.Relays.{An, KPg, L, RL, lever, signal, W314, W241, jam, width, up}
 use Rattle.relay.specs.Valid.{noOtherBits, staysDown, heldIsLocked, pedalBlocks, announcementBlocks, openIsReversed, passageIsAnnounced, wordOk, staysZero, countsWithin, postOk, h, holds, announcementsAgree, releasesAgree, recordedAgree, passagesAgree, garageWithin, oneAtMost, sectionOk, postsOk, sectionsFrom, sectionsOk, mostEvents, valid}
 use Rattle.relay.specs.declared.Head.{Head}
 use Rattle.relay.specs.declared.Post.{Post}
@@ -52,8 +52,8 @@ kind-iff n i k = (
 pub record WordOk (k w : ℕ) : Type 0 where
   -- 'All other bits are zero.'
   pub no-others : w < 2 ^ width
-  -- 'An and KPg stay down at the origin'
-  pub origin-down : k ≡ origin → (up An w ≡ false) × (up KPg w ≡ false)
+  -- 'An and KPg stay down at the origin', and the jam
+  pub origin-down : k ≡ origin → (up An w ≡ false) × ((up KPg w ≡ false) × (up jam w ≡ false))
   -- 'L, RL and both W bits stay down at the terminus'
   pub terminus-down : k ≡ terminus → (up L w ≡ false) × (up RL w ≡ false) × (up W314 w ≡ false) × (up W241 w ≡ false)
   -- 'For each post but the terminus: RL down requires L down and lever normal.'

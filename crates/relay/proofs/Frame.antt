@@ -2,18 +2,18 @@
 -- Each holds because an event is a choice by its answer between the line and head as they were and the line with two records set.
 use Prim.Native.Nat.{ℕ, _+_, _≤_, _<_}
 use mathlib.Core.Path.{_≡_, refl, sym, _∙_}
-use mathlib.Core.Bool.{Bool, true, false}
+use mathlib.Core.Bool.{Bool, true, false, _||_}
 use mathlib.Core.List.{List}
 use mathlib.Core.Logic.{_↔_, _⊎_, inl, inr, ⊎-elim}
 use native.Mathlib.Omega.{arith}
-use borrow.Author.Tests.{leb-true, ne-eqb}
-use lib.Dec.{leb}
+use borrow.Author.Tests.{leb-true, eqb-true, ne-eqb}
+use lib.Dec.{eqb, leb}
 use lib.ListN.{length, length-set}
 use lib.Seq.{getD-set-same, getD-set-other, lt-length-set}
 use Rattle.relay.specs.Choice.{pick, same, grown}
 use Rattle.relay.specs.Events.{reverseRefusal, normalRefusal, announceRefusal, releaseRefusal, garageRefusal, underWayRefusal, restoreRefusal, lacks, ownRefusal, refusal, changed}
 use Rattle.relay.specs.Examples.{lacksTable, listed}
-use Rattle.relay.specs.Line.{head, After, namesSection, neighbour, gate, answerOf, changedLine, eventOf, Gives}
+use Rattle.relay.specs.Line.{head, After, lastEvent, namesSection, neighbour, gate, answerOf, changedLine, eventOf, Gives}
 use Rattle.relay.specs.Posts.{at, blank}
 use Rattle.relay.specs.Valid.{valid}
 use Rattle.relay.specs.declared.Head.{Head}
@@ -21,7 +21,7 @@ use Rattle.relay.specs.declared.Post.{Post}
 use Rattle.relay.specs.declared.Told.{Told}
 use Rattle.relay.proofs.Accepted.{Accepted, accepted-iff, event-cases}
 use Rattle.relay.proofs.Rules.{rules}
-use Rattle.relay.proofs.Truth.{every, split, equal-or-not}
+use Rattle.relay.proofs.Truth.{every, split, equal-or-not, pick-same, or-facts}
 
 -- ---- the answer
 -- an event's answer is that of the order of refusals
@@ -29,20 +29,28 @@ pub answer-is : (l : List Post) (s : Head) (n i t : ℕ) → eventOf l s n i t .
 answer-is l s n i t =
     event-cases (λ a. a .told .answer ≡ answerOf l s n i t) l s n i t (λ r. sym (accepted-iff l s n i t .1 r)) (λ e. refl)
 
--- a list of refusals gives none above 17 if neither its first nor its rest does
-first-small : (b : Bool) (m x : ℕ) → leb (pick b m x) 17 ≡ pick b (leb m 17) (leb x 17)
-first-small true m x = refl
-first-small false m x = refl
+-- the numbers that an event can be given
+abbrev pub anEvents : ℕ → Bool
+anEvents k = leb k 17 || eqb k 22 || eqb k 23
 
--- a choice between two that are small
-both-small : (b : Bool) → pick b true true ≡ true
-both-small true = refl
-both-small false = refl
+-- a list of refusals gives no other if neither its first nor its rest does
+first-known : (b : Bool) (m x : ℕ) → anEvents (pick b m x) ≡ pick b (anEvents m) (anEvents x)
+first-known true m x = refl
+first-known false m x = refl
 
--- an event's answer is one of 0 to 17
-pub answer-small : (l : List Post) (s : Head) (n i t : ℕ) → answerOf l s n i t ≤ 17
+-- an event's answer is one of 0 to 17, 22 and 23
+pub answer-known : (l : List Post) (s : Head) (n i t : ℕ) → anEvents (answerOf l s n i t) ≡ true
 unfolding answerOf gate refusal ownRefusal reverseRefusal normalRefusal announceRefusal releaseRefusal garageRefusal underWayRefusal restoreRefusal
-answer-small l s n i t = leb-true (answerOf l s n i t) 17 (simp (first-small, both-small))
+answer-known l s n i t = simp (first-known, pick-same)
+
+-- so that it is at most 23
+pub answer-small : (l : List Post) (s : Head) (n i t : ℕ) → answerOf l s n i t ≤ 23
+answer-small l s n i t =
+    let k = answerOf l s n i t in
+    or-facts (leb k 17 || eqb k 22) (eqb k 23)
+    (or-facts (leb k 17) (eqb k 22) (λ e. omega (arith, leb-true k 17 e)) (λ e. omega (arith, eqb-true k 22 e)))
+    (λ e. omega (arith, eqb-true k 23 e))
+    (answer-known l s n i t)
 
 -- ---- the session head
 -- 'A refused event leaves every record and the session head unaltered.'
@@ -152,7 +160,7 @@ pub valid-one : (l : List Post) (s : Head) (b b′ : Bool) → b ≡ valid l s �
 valid-one l s b b′ f g = f ∙ sym g
 
 -- ---- devices
--- '6 is given for 3 at kind 0; 4 at kinds 3 and 4; 5 at kind 1; 6 at kind 0; 7 at kinds 0, 1 and 4', and for no other event up to 10 at a kind 0 to 4
-pub devices : every 11 (λ n. every 5 (λ k. same (lacks n k) (listed n k lacksTable))) ≡ true
+-- '6 is given for 3 at kind 0; 4 at kinds 3 and 4; 5 at kind 1; 6 at kind 0; 7 at kinds 0, 1 and 4', 11 and 12 'get 6 at the origin', and for no other event at a kind 0 to 4
+pub devices : every (lastEvent + 1) (λ n. every 5 (λ k. same (lacks n k) (listed n k lacksTable))) ≡ true
 unfolding rules every
 devices = refl

@@ -11,7 +11,7 @@ use lib.Dec.{eqb, leb, ltb}
 use lib.ListN.{length}
 use Rattle.relay.specs.Choice.{pick}
 use Rattle.relay.specs.Clock.{apart, behind}
-use Rattle.relay.specs.Events.{refusal, lacks, ownRefusal, reverseRefusal, normalRefusal, announceRefusal, releaseRefusal, garageRefusal, underWayRefusal, restoreRefusal}
+use Rattle.relay.specs.Events.{refusal, lacks, jamHinders, nothingToFree, ownRefusal, reverseRefusal, normalRefusal, announceRefusal, releaseRefusal, garageRefusal, underWayRefusal, restoreRefusal}
 use Rattle.relay.specs.Given.{Row, eventReasons, reasons, givenBy, given, othersRight, kindsRight, tableWrong, startReasons}
 use Rattle.relay.specs.Kinds.{hasSignalPedal, hasPassagePedal, hasGarageRelease, between, countFits, kindFits, kindsFit, tableOk}
 use Rattle.relay.specs.Line.{lastEvent, numbered, namesSection, present, neighbour, gate, answerOf, After, startable, startOf}
@@ -72,6 +72,37 @@ first-test k (r ∷ rs) e =
 pub first-given : {n : ℕ} (k : ℕ) (rs : List Row) → once rs ≡ true → n ≡ first rs → (n ≡ k) ↔ (givenBy rs k ≡ true)
 first-given {n} k rs e f = rw (← first-test k rs e, ← f) (eqb-facts n k .1, eqb-facts n k .0)
 
+-- ---- the row of a number, wherever it stands
+-- the reason beside a number, false where it stands in no row
+unfoldable pub beside : ℕ → List Row → Bool
+beside k [] = false
+beside k (r ∷ rs) = pick (eqb k (r .number)) (r .reason) (beside k rs)
+
+-- a number that is given has its reason
+pub given-beside : (k : ℕ) (rs : List Row) → eqb k 0 ≡ false → givenBy rs k ≡ true → beside k rs ≡ true
+unfolding beside givenBy
+given-beside k [] z e = sym z ∙ e
+given-beside k (r ∷ rs) z e =
+    split (eqb k (r .number))
+    (λ b. rw b (rw b at e))
+    (λ b. rw b (given-beside k rs z (and-facts (not (r .reason)) (givenBy rs k) .0 (rw b at e) .1)))
+
+-- number j stands in a row ahead of k's
+unfoldable pub ahead : ℕ → ℕ → List Row → Bool
+ahead j k [] = false
+ahead j k (r ∷ rs) = not (eqb k (r .number)) && pick (eqb j (r .number)) true (ahead j k rs)
+
+-- where k is given the reason beside such a number does not hold
+pub given-ahead : (j k : ℕ) (rs : List Row) → ahead j k rs ≡ true → givenBy rs k ≡ true → beside j rs ≡ false
+unfolding beside ahead givenBy
+given-ahead j k [] a e = refl
+given-ahead j k (r ∷ rs) a e =
+    let f = and-facts (not (eqb k (r .number))) (pick (eqb j (r .number)) true (ahead j k rs)) .0 a in
+    let g = and-facts (not (r .reason)) (givenBy rs k) .0 (rw (not-facts (eqb k (r .number)) .0 (f .0)) at e) in
+    split (eqb j (r .number))
+    (λ b. rw b (not-facts (r .reason) .0 (g .0)))
+    (λ b. rw b (given-ahead j k rs (rw b at (f .1)) (g .1)))
+
 -- ---- 6 and the event's own list
 -- what holds of each kind 0 to 4
 kinds : (P : ℕ → Type 0) → P 0 → P 1 → P 2 → P 3 → P 4 → (k : ℕ) → k < 5 → P k
@@ -89,7 +120,7 @@ module _ (l : List Post) (i w : ℕ) where
 
   -- every event number
   own : (n : ℕ) → 1 ≤ n → n ≤ lastEvent → AtAll n
-  unfolding first eventReasons refusal lacks ownRefusal reverseRefusal normalRefusal announceRefusal releaseRefusal garageRefusal underWayRefusal restoreRefusal hasPassagePedal hasSignalPedal hasGarageRelease neighbour namesSection
+  unfolding first eventReasons refusal lacks jamHinders nothingToFree ownRefusal reverseRefusal normalRefusal announceRefusal releaseRefusal garageRefusal underWayRefusal restoreRefusal hasPassagePedal hasSignalPedal hasGarageRelease neighbour namesSection
   own =
       from AtAll lastEvent 1 (kinds (At 1) (simp or-false) (simp or-false) (simp or-false) (simp or-false) (simp or-false))
       (from AtAll lastEvent 2 (kinds (At 2) refl refl refl refl refl)
@@ -100,7 +131,9 @@ module _ (l : List Post) (i w : ℕ) where
       (from AtAll lastEvent 7 (kinds (At 7) refl refl refl refl refl)
       (from AtAll lastEvent 8 (kinds (At 8) refl refl refl refl refl)
       (from AtAll lastEvent 9 (kinds (At 9) refl refl refl refl refl)
-      (from AtAll lastEvent 10 (kinds (At 10) refl refl refl refl refl) (λ n x y. absurd (omega arith)))))))))))
+      (from AtAll lastEvent 10 (kinds (At 10) refl refl refl refl refl)
+      (from AtAll lastEvent 11 (kinds (At 11) refl refl refl refl refl)
+      (from AtAll lastEvent 12 (kinds (At 12) refl refl refl refl refl) (λ n x y. absurd (omega arith)))))))))))))
 
 -- ---- 1, 3, 2, 5 and 4
 -- one list, then another: the first's numbers go first
@@ -153,7 +186,7 @@ answer-first l s n i t =
     past (not (valid l s)) 1
     (λ v.
     simp gate-first
-    (past (not (leb 1 n && leb n 10)) 3
+    (past (not (leb 1 n && leb n 12)) 3
     (λ e.
     let h = simp facts at e in
     rw (place (length l) i n)

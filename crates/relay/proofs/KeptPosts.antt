@@ -11,9 +11,9 @@ use Rattle.relay.specs.Relays.{An, KPg, L, RL, lever, W314, W241, up, ra
 use Rattle.relay.specs.Valid.{mostEvents}
 use Rattle.relay.specs.declared.Pair.{Pair}
 use Rattle.relay.specs.declared.Post.{Post}
-use Rattle.relay.proofs.Cases.{sentBack, underWay, garage-kind, Taken, reverse, normalise, pass, pass-idle, strike-block, strike-close, strike-idle, announce, release, garage, announcement-arrives, release-arrives, announcement-lost, release-lost, restore}
+use Rattle.relay.proofs.Cases.{sentBack, underWay, garage-kind, Taken, reverse, normalise, pass, pass-idle, strike-block, strike-close, strike-idle, announce, release, garage, announcement-arrives, announcement-jammed, release-arrives, announcement-lost, release-lost, restore, button-jams, button-freed}
 use Rattle.relay.proofs.Facts.{KindOk, WordOk, PostOk, SectionOk, Within}
-use Rattle.relay.proofs.KeptWords.{Keeps, keeps-word, word-reverse, word-normal, word-pass, word-block, word-close, word-announce, word-release, word-release-sent, word-announcement-gone, word-announcement-in, word-release-in, word-release-gone, word-restore}
+use Rattle.relay.proofs.KeptWords.{Keeps, keeps-word, word-reverse, word-normal, word-pass, word-block, word-close, word-announce, word-release, word-release-sent, word-announcement-gone, word-announcement-in, word-release-in, word-release-gone, word-restore, word-jam, word-free}
 use Rattle.relay.proofs.Truth.{facts, equal-or-not, split, ones, up-or-down}
 use Rattle.relay.proofs.Word.{relays}
 
@@ -202,7 +202,7 @@ module _ {n i j t : ℕ} {u d : Post} (room : t < mostEvents) (next : j ≡ i + 
       (simp relays (refl, refl))
       (simp relays (omega (arith, ones, U .counts, up-or-down (up RL (u .word)))))
 
-  -- 9. the announcement under way is lost
+  -- 8 at a jammed post, and 9: the announcement under way is lost
   announcement-gone : up W314 (u .word) ≡ true → Two n i j t u d (more-x (wordTo (lower W314 (u .word)) u)) d
   announcement-gone a =
       upstream (word U word-announcement-gone refl) (omega (arith, U .counts)) (simp relays (refl, refl)) (simp relays (omega (arith, ones, U .counts)))
@@ -239,13 +239,16 @@ keeps {p = p} room r (strike-block a b) = single refl (unseen r (word r word-blo
 keeps {p = p} room r (strike-close a b) = single refl (unseen r (word r word-close (simp facts a)) (simp relays (alike (p .word))))
 keeps room r (strike-idle a b) = single refl (idle r)
 keeps room r (announce a b c) = single refl (announces r room a b c)
-keeps {p = p} room r (release k a b c d e) =
+keeps {p = p} room r (release k a m b c d e) =
     back k (λ f o s. sends-back room k f o r s (p .c) (omega arith) (r .zeros .terminus-garage) (r .zeros .intermediate-garage) b c)
-keeps {p = p} room r (garage k a b c) =
+keeps {p = p} room r (garage k a m b c) =
     let g = garage-kind (p .kind) a in
     back k (λ f o s. sends-back room k f o r s (grown (p .c)) (omega arith) (λ z. absurd (omega arith)) (λ z. absurd (omega arith)) b c)
-keeps room r (announcement-arrives k a) = onward k (λ f o s. announcement-in room k f r o s a)
+keeps room r (announcement-arrives k a b) = onward k (λ f o s. announcement-in room k f r o s a)
+keeps room r (announcement-jammed k a b) = onward k (λ f o s. announcement-gone room k f r o s a)
 keeps room r (release-arrives k a b) = onward k (λ f o s. release-in room k f r o s a b)
 keeps room r (announcement-lost k a) = onward k (λ f o s. announcement-gone room k f r o s a)
 keeps room r (release-lost k a b) = onward k (λ f o s. release-gone room k f r o s a b)
 keeps room r (restore k a b c d) = onward k (λ f o s. restores room k f r o s a b c d)
+keeps {p = p} room r (button-jams a b) = single refl (unseen r (word r word-jam (simp facts a)) (simp relays (alike (p .word))))
+keeps {p = p} room r (button-freed a b) = single refl (unseen r (word r word-free refl) (simp relays (alike (p .word))))

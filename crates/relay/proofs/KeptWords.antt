@@ -6,7 +6,7 @@ use mathlib.Core.Bool.{Bool, true, not, _&&_}
 use lib.Dec.{eqb}
 use Rattle.relay.specs.Choice.{requires}
 use Rattle.relay.specs.Kinds.{origin, terminus, blocksAtPedal}
-use Rattle.relay.specs.Relays.{An, KPg, L, RL, lever, signal, W314, W241, width, up, down, raise, lower}
+use Rattle.relay.specs.Relays.{An, KPg, L, RL, lever, signal, W314, W241, jam, width, up, down, raise, lower}
 use Rattle.relay.specs.Valid.{wordOk}
 use Rattle.relay.proofs.Facts.{WordOk, word-iff}
 use Rattle.relay.proofs.Rules.{rules}
@@ -89,3 +89,13 @@ word-release-gone = record { passes = refl }
 pub word-restore : Keeps (λ k w. not (eqb k terminus) && down RL w) (λ w. raise RL (raise L w))
 unfolding rules every
 word-restore = record { passes = refl }
+
+-- 11. the button jams, at a post but the origin
+pub word-jam : Keeps (λ k w. not (eqb k origin)) (λ w. raise jam w)
+unfolding rules every
+word-jam = record { passes = refl }
+
+-- 12. it is freed
+pub word-free : Keeps (λ k w. true) (λ w. lower jam w)
+unfolding rules every
+word-free = record { passes = refl }

@@ -1,4 +1,4 @@
--- The numbers returned. 01, 'Numbers returned' and 'Events'. Numbers 18 to 21 are the sheet's.
+-- The numbers returned. 01, 'Numbers returned' and 'Events', and 02, item 2. Numbers 18 to 21 are the sheet's.
 -- Assumes nothing.
 use Prim.Native.Nat.{ℕ}
 
@@ -55,3 +55,9 @@ signalUnderWay = 16
 
 abbrev pub anUp : ℕ
 anUp = 17
+
+abbrev pub buttonJammed : ℕ
+buttonJammed = 22
+
+abbrev pub buttonFree : ℕ
+buttonFree = 23

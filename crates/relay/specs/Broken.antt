@@ -1,4 +1,4 @@
--- Each rule of a line that may be used, broken alone. 01, 'A line that may be used' and 'One post's relays': a table of lines, each a line that a
+-- Each rule of a line that may be used, broken alone. 01, 'A line that may be used' and 'One post's relays', and 02, item 2: a table of lines, each a line that a
 -- history left, with one or two posts altered by other hands so that one rule is broken and every other one still holds.
 -- That each of them breaks one rule and may not be used stands in proofs/Broken.antt. Rules that others imply cannot be broken alone and have
 -- no row: KPg at the origin (with An down it breaks 'KPg requires An'), and the counts but a within the events taken (none is greater than a).
@@ -15,7 +15,7 @@ use Rattle.relay.specs.Kinds.{countFits, kindFits}
 use Rattle.relay.specs.Line.{head, freshLine}
 use Rattle.relay.specs.Posts.{at, post, wordTo, more-a, more-x, more-y, more-v, more-g, more-r, more-q, more-e, more-c}
 use Rattle.relay.specs.Reached.{line, started, released}
-use Rattle.relay.specs.Relays.{An, KPg, L, RL, lever, signal, W314, W241, width, raise, lower}
+use Rattle.relay.specs.Relays.{An, KPg, L, RL, lever, signal, W314, W241, jam, width, raise, lower}
 use Rattle.relay.specs.Valid.{noOtherBits, staysDown, heldIsLocked, pedalBlocks, announcementBlocks, openIsReversed, passageIsAnnounced, staysZero, countsWithin, holds, announcementsAgree, releasesAgree, recordedAgree, passagesAgree, garageWithin, oneAtMost, mostEvents, valid}
 use Rattle.relay.specs.declared.Head.{Head}
 use Rattle.relay.specs.declared.Post.{Post}
@@ -65,8 +65,9 @@ table =
     ∷ row [] 1 (kindTo 5) same
     -- 'All other bits are zero.'
     ∷ row [] 0 strayBit same
-    -- 'An and KPg stay down at the origin; L, RL and both W bits stay down at the terminus.'
+    -- 'An and KPg stay down at the origin; L, RL and both W bits stay down at the terminus.' The jam is 'down .. at the origin'
     ∷ row [] 0 (raised An) same
+    ∷ row [] 0 (raised jam) same
     ∷ row [] 3 same (raised L)
     ∷ row [] 3 same (raised RL)
     ∷ row [] 3 same (raised W314)

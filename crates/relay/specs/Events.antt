@@ -1,14 +1,14 @@
--- The ten events. 01, 'Events': each is a list of refusals, 0 where none is given, and a change.
+-- The twelve events. 01, 'Events', and 02, item 2: each is a list of refusals, 0 where none is given, and a change.
 -- p is the post that the event names; o is its neighbour: upstream for 6 and 7, downstream for 8, 9 and 10.
 -- Assumes nothing.
 use Prim.Native.Nat.{ℕ}
 use mathlib.Core.Bool.{Bool, false, not, _&&_, _||_}
 use lib.Dec.{eqb}
-use Rattle.relay.specs.Answers.{leverThere, lDown, rlDown, leverReversed, anDown, kpgDown, rlUp, nothingUnderWay, sectionFree, signalUnderWay, anUp, noDevice}
+use Rattle.relay.specs.Answers.{leverThere, lDown, rlDown, leverReversed, anDown, kpgDown, rlUp, nothingUnderWay, sectionFree, signalUnderWay, anUp, noDevice, buttonJammed, buttonFree}
 use Rattle.relay.specs.Choice.{pick}
 use Rattle.relay.specs.Kinds.{origin, terminus, hasSignalPedal, hasPassagePedal, hasGarageRelease, blocksAtPedal}
 use Rattle.relay.specs.Posts.{wordTo, more-a, more-x, more-y, more-v, more-g, more-r, more-q, more-e, more-c}
-use Rattle.relay.specs.Relays.{An, KPg, L, RL, lever, signal, W314, W241, up, down, raise, lower}
+use Rattle.relay.specs.Relays.{An, KPg, L, RL, lever, signal, W314, W241, jam, up, down, raise, lower}
 use Rattle.relay.specs.declared.Post.{Post}
 use Rattle.relay.specs.declared.Pair.{Pair}
 
@@ -83,10 +83,13 @@ unfoldable pub underWayRefusal : ℕ → ℕ
 underWayRefusal w = pick (down W314 w && down W241 w) nothingUnderWay 0
 
 -- 8. Arrival: 'W314: it drops, An downstream rises, r grows by 1. W241: it drops, L and RL rise, v grows by 1.'
+-- 02, item 2: 'An announcement arriving at a jammed post clears from the circuit and is counted in x; An stays down.'
 unfoldable pub arrived : Post → Post → Pair
 arrived p o =
     pick (up W314 (p .word))
-    (pair (wordTo (lower W314 (p .word)) p) (more-r (wordTo (raise An (o .word)) o)))
+    (pick (up jam (o .word))
+    (pair (more-x (wordTo (lower W314 (p .word)) p)) o)
+    (pair (wordTo (lower W314 (p .word)) p) (more-r (wordTo (raise An (o .word)) o))))
     (pair (more-v (wordTo (raise RL (raise L (lower W241 (p .word)))) p)) o)
 
 -- 9. Loss (house): 'The signal under way drops; x or y grows by 1.'
@@ -105,6 +108,14 @@ restoreRefusal w z =
 unfoldable pub restored : Post → Post
 restored p = more-g (wordTo (raise RL (raise L (p .word))) p)
 
+-- 11. The button jams: 02, item 2
+unfoldable pub jammed : Post → Post
+jammed p = wordTo (raise jam (p .word)) p
+
+-- 12. It is freed
+unfoldable pub freed : Post → Post
+freed p = wordTo (lower jam (p .word)) p
+
 -- ---- by the event's number n
 -- 6: this kind of post lacks the device
 unfoldable pub lacks : ℕ → ℕ → Bool
@@ -113,7 +124,16 @@ lacks n k =
     (pick (eqb n 4) (not (hasSignalPedal k))
     (pick (eqb n 5) (eqb k terminus)
     (pick (eqb n 6) (eqb k origin)
-    (pick (eqb n 7) (not (hasGarageRelease k)) false))))
+    (pick (eqb n 7) (not (hasGarageRelease k))
+    (pick (eqb n 11 || eqb n 12) (eqb k origin) false)))))
+
+-- 22: 'for events 6, 7 and 11 at a jammed post'
+unfoldable pub jamHinders : ℕ → ℕ → Bool
+jamHinders n w = (eqb n 6 || eqb n 7 || eqb n 11) && up jam w
+
+-- 23: 'for 12 at a free one'
+unfoldable pub nothingToFree : ℕ → ℕ → Bool
+nothingToFree n w = eqb n 12 && down jam w
 
 -- the event's own list: k is the kind, w the word of the post named, z its neighbour's word
 unfoldable pub ownRefusal : ℕ → ℕ → ℕ → ℕ → ℕ
@@ -126,9 +146,11 @@ ownRefusal n k w z =
     (pick (eqb n 8 || eqb n 9) (underWayRefusal w)
     (pick (eqb n 10) (restoreRefusal w z) 0))))))
 
--- 6, then the event's own list
+-- 6, then 22 and 23, 'both right after 6', then the event's own list
 unfoldable pub refusal : ℕ → ℕ → ℕ → ℕ → ℕ
-refusal n k w z = pick (lacks n k) noDevice (ownRefusal n k w z)
+refusal n k w z =
+    pick (lacks n k) noDevice
+    (pick (jamHinders n w) buttonJammed (pick (nothingToFree n w) buttonFree (ownRefusal n k w z)))
 
 -- what the event, taken, makes of the two posts
 unfoldable pub changed : ℕ → Post → Post → Pair
@@ -142,4 +164,5 @@ changed n p o =
     (pick (eqb n 7) (pair (garaged p) (releaseUnderWay o))
     (pick (eqb n 8) (arrived p o)
     (pick (eqb n 9) (pair (lost p) o)
-    (pick (eqb n 10) (pair (restored p) o) (pair p o))))))))))
+    (pick (eqb n 10) (pair (restored p) o)
+    (pick (eqb n 11) (pair (jammed p) o) (pick (eqb n 12) (pair (freed p) o) (pair p o))))))))))))

@@ -1,4 +1,4 @@
--- The numbers returned to an event and on starting, by the number. 01, 'Numbers returned': 'No. | Given exactly when', and the refusals that 'Events' names.
+-- The numbers returned to an event and on starting, by the number. 01, 'Numbers returned': 'No. | Given exactly when', the refusals that 'Events' names, and 02, item 2.
 -- A second reading of the paper: specs/Events.antt goes by the event and says which number it is given; this goes by the number and says
 -- which events are given it, at which kinds and with which relays. It is typed from the paper's table and lists, with the paper's own numbers,
 -- and cites none of the refusals there. That the two agree stands in proofs/Given.antt.
@@ -11,7 +11,7 @@ use lib.ListN.{length}
 use Rattle.relay.specs.Choice.{pick}
 use Rattle.relay.specs.Examples.{lacksTable, listed}
 use Rattle.relay.specs.Posts.{at}
-use Rattle.relay.specs.Relays.{An, KPg, L, RL, lever, W314, W241, up, down}
+use Rattle.relay.specs.Relays.{An, KPg, L, RL, lever, W314, W241, jam, up, down}
 use Rattle.relay.specs.Valid.{valid}
 use Rattle.relay.specs.declared.Head.{Head}
 use Rattle.relay.specs.declared.Post.{Post}
@@ -24,11 +24,14 @@ pub record Row : Type 0 where
 abbrev pub row : ℕ → Bool → Row
 row k b = record { number = k; reason = b }
 
--- 6, and the numbers of the events' own lists: event n at a post of kind k with the relay word w; z is the word of the post downstream
+-- 6, 22 and 23, and the numbers of the events' own lists: event n at a post of kind k with the relay word w; z is the word of the post downstream
 unfoldable pub eventReasons : ℕ → ℕ → ℕ → ℕ → List Row
 eventReasons n k w z =
     -- 'this kind of post lacks the device'
     row 6 (listed n k lacksTable)
+    -- 'for events 6, 7 and 11 at a jammed post', '23 for 12 at a free one', 'both right after 6'
+    ∷ row 22 ((eqb n 6 || eqb n 7 || eqb n 11) && up jam w)
+    ∷ row 23 (eqb n 12 && down jam w)
     -- 1: 'if already reversed'; 2: 'if already normal'
     ∷ row 7 (eqb n 1 && up lever w || eqb n 2 && down lever w)
     -- 1: 'if L is down (8 not at the terminus)'
@@ -50,13 +53,13 @@ eventReasons n k w z =
     ∷ row 17 (eqb n 10 && up An z)
     ∷ []
 
--- 'Order for an event: 1, 3, 2, 5, 4, 6, then the event's own list': event n, which names the post or section i, with stamp t
+-- 'Order for an event: 1, 3, 2, 5, 4, 6, then the event's own list', with 22 and 23 'right after 6': event n, which names the post or section i, with stamp t
 unfoldable pub reasons : List Post → Head → ℕ → ℕ → ℕ → List Row
 reasons l s n i t =
     -- 'line not valid'
     row 1 (not (valid l s))
-    -- 'event number not 1 to 10'
-    ∷ row 3 (not (leb 1 n && leb n 10))
+    -- 'event number not 1 to 10', and 'events 11 and 12 no longer get 3'
+    ∷ row 3 (not (leb 1 n && leb n 12))
     -- 'no such post, or no such section for 8, 9, 10'
     ∷ row 2 (not (ltb i (length l)) || (eqb n 8 || eqb n 9 || eqb n 10) && not (ltb (i + 1) (length l)))
     -- '1,000,000 events already taken'

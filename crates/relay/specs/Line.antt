@@ -52,9 +52,9 @@ startOf l ks t = pick (startable l ks) (after (told taken (head 0 t)) (freshLine
 -- ---- one event: its number n, the post or section i that it names, its stamp t
 -- the events are numbered from 1 to this
 abbrev pub lastEvent : ℕ
-lastEvent = 10
+lastEvent = 12
 
--- 'event number not 1 to 10'
+-- 'event number not 1 to 10'; 02, item 2: 'events 11 and 12 no longer get 3'
 unfoldable pub numbered : ℕ → Bool
 numbered n = leb 1 n && leb n lastEvent
 
@@ -78,7 +78,7 @@ gate m s n i t =
     (pick (leb mostEvents (s .taken)) sessionFull
     (pick (behind (s .last) t) stampBehind 0)))
 
--- 'Order for an event: 1, 3, 2, 5, 4, 6, then the event's own list'
+-- 'Order for an event: 1, 3, 2, 5, 4, 6, then the event's own list'; 22 and 23 'right after 6'
 unfoldable pub answerOf : List Post → Head → ℕ → ℕ → ℕ → ℕ
 answerOf l s n i t =
     pick (not (valid l s)) notValid

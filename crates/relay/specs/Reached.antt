@@ -1,5 +1,5 @@
--- Every event can be taken, with its effect, at each kind of post that has its device; and every number 2 to 17 is given.
--- 01, 'Events' and 'Numbers returned', on one line that has a post of each kind and four sections: a table of histories from the fresh line, each
+-- Every event can be taken, with its effect, at each kind of post that has its device; and every number 2 to 17, 22 and 23 is given.
+-- 01, 'Events' and 'Numbers returned', and 02, item 2, on one line that has a post of each kind and four sections: a table of histories from the fresh line, each
 -- with one event more, its answer, and what it alters. That the rules give this table stands in proofs/Reached.antt.
 -- Assumes nothing.
 use Prim.Native.Nat.{ℕ, zero, suc, _+_, _-_}
@@ -9,7 +9,7 @@ use lib.Dec.{eqb}
 use Rattle.relay.specs.Choice.{pick}
 use Rattle.relay.specs.Examples.{Event, ev, ev-at, then, fresh, afterAll}
 use Rattle.relay.specs.Line.{After, after, told, head}
-use Rattle.relay.specs.Relays.{An, KPg, L, RL, lever, signal, W314, W241, width, up, down}
+use Rattle.relay.specs.Relays.{An, KPg, L, RL, lever, signal, W314, W241, jam, width, up, down}
 use Rattle.relay.specs.Valid.{mostEvents}
 use Rattle.relay.specs.declared.Post.{Post}
 
@@ -184,8 +184,19 @@ taken =
     -- 10. 'L and RL rise, g grows by 1.'
     ++ each upstream (λ i. row (ev 5 i ∷ ev 9 i ∷ []) (ev 10 i) (alters i (L ∷ RL ∷ []) [] (restorations ∷ [])))
     ++ each upstream (λ i. row (released (i + 1) ++ (ev 9 i ∷ [])) (ev 10 i) (alters i (L ∷ RL ∷ []) [] (restorations ∷ [])))
+    -- 11 and 12, 'the jam is bit 8 of the relay word': nothing else moves, An and KPg up or down
+    ++ each downstream (λ i. row [] (ev 11 i) (alters i (jam ∷ []) [] []))
+    ++ each downstream (λ i. row (passed i) (ev 11 i) (alters i (jam ∷ []) [] []))
+    ++ each downstream (λ i. row (ev 11 i ∷ []) (ev 12 i) (alters i [] (jam ∷ []) []))
+    -- 8. 'An announcement arriving at a jammed post clears from the circuit and is counted in x; An stays down.'
+    ++ each upstream (λ i. row (ev 11 (i + 1) ∷ ev 5 i ∷ []) (ev 8 i) (alters i [] (W314 ∷ []) (announcementsLost ∷ [])))
+    -- a release that arrives is received, the button jammed or not
+    ++ each upstream (λ i. row (released (i + 1) ++ (ev 11 (i + 1) ∷ [])) (ev 8 i) (alters i (L ∷ RL ∷ []) (W241 ∷ []) (releasesReceived ∷ [])))
+    -- freed, the post releases what it had recorded, and records what arrives
+    ++ each downstream (λ i. row (announcedOn i ++ (ev 11 i ∷ ev 12 i ∷ [])) (ev 6 i) (sends i (releasesSent ∷ [])))
+    ++ each upstream (λ i. row (ev 11 (i + 1) ∷ ev 12 (i + 1) ∷ ev 5 i ∷ []) (ev 8 i) (outcome 0 (altered i [] (W314 ∷ []) [] ∷ altered (i + 1) (An ∷ []) [] (announcementsReceived ∷ []) ∷ [])))
 
--- ---- every number 2 to 17 given
+-- ---- every number 2 to 17, 22 and 23 given
 abbrev pub refused : ℕ → Outcome
 refused n = outcome n []
 
@@ -196,16 +207,23 @@ atOnce k n i = row [] (ev n i) (refused k)
 unfoldable pub refusals : List Row
 refusals =
     -- 'no such post, or no such section for 8, 9, 10'
-    each (1 ∷ 2 ∷ 3 ∷ 4 ∷ 5 ∷ 6 ∷ 7 ∷ []) (λ n. atOnce 2 n 5)
+    each (1 ∷ 2 ∷ 3 ∷ 4 ∷ 5 ∷ 6 ∷ 7 ∷ 11 ∷ 12 ∷ []) (λ n. atOnce 2 n 5)
     ++ each (8 ∷ 9 ∷ 10 ∷ []) (λ n. atOnce 2 n 4)
-    -- 'event number not 1 to 10'
-    ++ each (0 ∷ 11 ∷ []) (λ n. atOnce 3 n 0)
+    -- 'event number not 1 to 10', and 'events 11 and 12 no longer get 3'
+    ++ each (0 ∷ 13 ∷ []) (λ n. atOnce 3 n 0)
     -- 'stamp behind the last'
     ++ (row (ev-at 1 0 1000 ∷ []) (ev-at 2 0 999) (refused 4) ∷ [])
     -- '1,000,000 events already taken': on a line with so many taken, since no history of that length is computed
     ++ (record { taken = mostEvents; before = []; event = ev 1 0; outcome = refused 5 } ∷ [])
-    -- '3 at kind 0; 4 at kinds 3 and 4; 5 at kind 1; 6 at kind 0; 7 at kinds 0, 1 and 4'
-    ++ (atOnce 6 3 0 ∷ atOnce 6 4 2 ∷ atOnce 6 4 3 ∷ atOnce 6 5 4 ∷ atOnce 6 6 0 ∷ atOnce 6 7 0 ∷ atOnce 6 7 4 ∷ atOnce 6 7 3 ∷ [])
+    -- '3 at kind 0; 4 at kinds 3 and 4; 5 at kind 1; 6 at kind 0; 7 at kinds 0, 1 and 4', 11 and 12 'at the origin'
+    ++ (atOnce 6 3 0 ∷ atOnce 6 4 2 ∷ atOnce 6 4 3 ∷ atOnce 6 5 4 ∷ atOnce 6 6 0 ∷ atOnce 6 7 0 ∷ atOnce 6 7 4 ∷ atOnce 6 7 3 ∷ atOnce 6 11 0 ∷ atOnce 6 12 0 ∷ [])
+    -- '22 for events 6, 7 and 11 at a jammed post', with An down or up, '23 for 12 at a free one'; 6 goes before them
+    ++ each (6 ∷ 11 ∷ []) (λ n. row (ev 11 1 ∷ []) (ev n 1) (refused 22))
+    ++ each downstream (λ i. row (announcedOn i ++ (ev 11 i ∷ [])) (ev 6 i) (refused 22))
+    ++ each (1 ∷ 2 ∷ []) (λ i. row (passed i ++ (ev 11 i ∷ [])) (ev 7 i) (refused 22))
+    ++ each downstream (λ i. row (ev 11 i ∷ []) (ev 11 i) (refused 22))
+    ++ each downstream (λ i. atOnce 23 12 i)
+    ++ each (3 ∷ 4 ∷ []) (λ i. row (ev 11 i ∷ []) (ev 7 i) (refused 6))
     -- 'if already reversed', 'if already normal'
     ++ each everyPost (λ i. row (ev 1 i ∷ []) (ev 1 i) (refused 7))
     ++ each everyPost (λ i. atOnce 7 2 i)

@@ -8,7 +8,7 @@ use lib.Dec.{eqb, ltb, leb}
 use lib.ListN.{length}
 use Rattle.relay.specs.Choice.{requires, same, one}
 use Rattle.relay.specs.Kinds.{origin, terminus, intermediate, blocksAtPedal, blocksAtAnnouncement, countFits, kindFits}
-use Rattle.relay.specs.Relays.{An, KPg, L, RL, lever, signal, W314, W241, width, up, down}
+use Rattle.relay.specs.Relays.{An, KPg, L, RL, lever, signal, W314, W241, jam, width, up, down}
 use Rattle.relay.specs.declared.Post.{Post}
 use Rattle.relay.specs.declared.Head.{Head}
 
@@ -17,10 +17,10 @@ use Rattle.relay.specs.declared.Head.{Head}
 unfoldable pub noOtherBits : ℕ → Bool
 noOtherBits w = ltb w (2 ^ width)
 
--- 'An and KPg stay down at the origin; L, RL and both W bits stay down at the terminus.'
+-- 'An and KPg stay down at the origin; L, RL and both W bits stay down at the terminus.' 02, item 2: the jam is 'down on a fresh line and at the origin'
 unfoldable pub staysDown : ℕ → ℕ → Bool
 staysDown k w =
-    requires (eqb k origin) (down An w && down KPg w)
+    requires (eqb k origin) (down An w && (down KPg w && down jam w))
     && requires (eqb k terminus) (down L w && (down RL w && (down W314 w && down W241 w)))
 
 -- 'For each post but the terminus: RL down requires L down and lever normal.'

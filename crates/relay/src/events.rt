@@ -1,8 +1,8 @@
-// The ten events on the post named and its neighbour: a list of refusals for each, and a change for each.
+// The twelve events on the post named and its neighbour: a list of refusals for each, and a change for each.
 ghost use mathlib.Core.Path.{_≡_};
 ghost use Rattle.relay.specs.Choice.{grown};
-ghost use Rattle.relay.specs.Events.{reverseRefusal, normalRefusal, announceRefusal, releaseRefusal, garageRefusal, underWayRefusal, restoreRefusal, lacks, ownRefusal, refusal};
-ghost use Rattle.relay.specs.Events.{reversed, normal, passed, struck, announced, released, garaged, releaseUnderWay, arrived, lost, restored, changed, pair};
+ghost use Rattle.relay.specs.Events.{reverseRefusal, normalRefusal, announceRefusal, releaseRefusal, garageRefusal, underWayRefusal, restoreRefusal, lacks, jamHinders, nothingToFree, ownRefusal, refusal};
+ghost use Rattle.relay.specs.Events.{reversed, normal, passed, struck, announced, released, garaged, releaseUnderWay, arrived, lost, restored, jammed, freed, changed, pair};
 use crate::Pair;
 use crate::Post;
 
@@ -190,7 +190,7 @@ pub fn under_way_refusal(w: u32) -> u32
     crate::NOTHING_UNDER_WAY
 }
 
-// 8. Arrival.
+// 8. Arrival: an announcement that arrives at a jammed post is lost.
 pub fn arrive(p: Post, o: Post) -> Pair
     ensures { λ r. ⌜ r ≡ arrived p o ⌝ }
 {
@@ -199,6 +199,10 @@ pub fn arrive(p: Post, o: Post) -> Pair
     let mut d = o;
     if w & crate::W314 != 0 {
         h.word = w & (crate::ALL ^ crate::W314);
+        if o.word & crate::JAM != 0 {
+            h.x = grow(p.x);
+            return Pair { here: h, other: o };
+        }
         d.word = o.word | crate::AN;
         d.r = grow(o.r);
         return Pair { here: h, other: d };
@@ -252,6 +256,24 @@ pub fn restore(p: Post) -> Post
     h
 }
 
+// 11. The button jams.
+pub fn jam_button(p: Post) -> Post
+    ensures { λ r. ⌜ r ≡ jammed p ⌝ }
+{
+    let mut h = p;
+    h.word = p.word | crate::JAM;
+    h
+}
+
+// 12. It is freed.
+pub fn free_button(p: Post) -> Post
+    ensures { λ r. ⌜ r ≡ freed p ⌝ }
+{
+    let mut h = p;
+    h.word = p.word & (crate::ALL ^ crate::JAM);
+    h
+}
+
 // 6: a post of this kind lacks the device of the event.
 pub fn lacks_device(number: u32, kind: u32) -> bool
     ensures { λ r. ⌜ r ≡ lacks number kind ⌝ }
@@ -272,7 +294,24 @@ pub fn lacks_device(number: u32, kind: u32) -> bool
     if number == 7 {
         return !((kind == crate::PEDAL_STATION) | (kind == crate::ANNOUNCEMENT_STATION));
     }
+    if (number == 11) | (number == 12) {
+        return kind == crate::ORIGIN;
+    }
     false
+}
+
+// 22: the event needs a button that is not jammed.
+pub fn jam_hinders(number: u32, w: u32) -> bool
+    ensures { λ r. ⌜ r ≡ jamHinders number w ⌝ }
+{
+    ((number == 6) | (number == 7) | (number == 11)) & (w & crate::JAM != 0)
+}
+
+// 23: there is no jam to free.
+pub fn nothing_to_free(number: u32, w: u32) -> bool
+    ensures { λ r. ⌜ r ≡ nothingToFree number w ⌝ }
+{
+    (number == 12) & (w & crate::JAM == 0)
 }
 
 // The event's own list, by its number; `w` is the word of the post named, `z` its neighbour's.
@@ -292,12 +331,18 @@ pub fn own_refusal(number: u32, kind: u32, w: u32, z: u32) -> u32
     }
 }
 
-// 6, then the event's own list.
+// 6, then 22 and 23, then the event's own list.
 pub fn refusal_of(number: u32, kind: u32, w: u32, z: u32) -> u32
     ensures { λ r. ⌜ r ≡ refusal number kind w z ⌝ }
 {
     if lacks_device(number, kind) {
         return crate::NO_DEVICE;
+    }
+    if jam_hinders(number, w) {
+        return crate::BUTTON_JAMMED;
+    }
+    if nothing_to_free(number, w) {
+        return crate::BUTTON_FREE;
     }
     own_refusal(number, kind, w, z)
 }
@@ -324,6 +369,8 @@ pub fn change(number: u32, p: Post, o: Post) -> Pair
         8 => arrive(p, o),
         9 => with_here(lose(p), o),
         10 => with_here(restore(p), o),
+        11 => with_here(jam_button(p), o),
+        12 => with_here(free_button(p), o),
         _ => with_here(p, o),
     }
 }

@@ -1,4 +1,4 @@
-// The relay rules: the record of a post, the session head, and the ten events on one post and its neighbour, by value.
+// The relay rules: the record of a post, the session head, and the twelve events on one post and its neighbour, by value.
 // What each function must be stands in specs/, beside the sentence of the paper that it comes from.
 ghost use mathlib.Core.Path.{_≡_};
 
@@ -34,7 +34,9 @@ pub const W314: u32 = 64;
 
 pub const W241: u32 = 128;
 
-pub const ALL: u32 = 255;
+pub const JAM: u32 = 256;
+
+pub const ALL: u32 = 511;
 
 // The numbers returned.
 pub const TAKEN: u32 = 0;
@@ -73,8 +75,12 @@ pub const SIGNAL_UNDER_WAY: u32 = 16;
 
 pub const AN_UP: u32 = 17;
 
+pub const BUTTON_JAMMED: u32 = 22;
+
+pub const BUTTON_FREE: u32 = 23;
+
 // The number of the last event.
-pub const LAST_EVENT: u32 = 10;
+pub const LAST_EVENT: u32 = 12;
 
 // The most events of a session.
 pub const MOST_EVENTS: u32 = 1000000;

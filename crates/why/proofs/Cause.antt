@@ -8,7 +8,7 @@ use mathlib.Core.List.{List}
 use borrow.Author.Tests.{eqb-true}
 use lib.Dec.{eqb}
 use Rattle.relay.proofs.Accepted.{event-cases}
-use Rattle.relay.proofs.Cases.{Taken, reverse, normalise, pass, pass-idle, strike-block, strike-close, strike-idle, announce, release, garage, announcement-arrives, release-arrives, announcement-lost, release-lost, restore, accepted-case}
+use Rattle.relay.proofs.Cases.{Taken, reverse, normalise, pass, pass-idle, strike-block, strike-close, strike-idle, announce, release, garage, announcement-arrives, announcement-jammed, release-arrives, announcement-lost, release-lost, restore, button-jams, button-freed, accepted-case}
 use Rattle.relay.proofs.Frame.{taken-replaces}
 use Rattle.relay.proofs.Touched.{other-stays}
 use Rattle.relay.proofs.Truth.{or-facts, equal-or-not}
@@ -53,13 +53,16 @@ moves-here f (strike-block a b) = strikes refl f a (simp relays)
 moves-here f (strike-close a b) = still (simp relays) (simp relays)
 moves-here f (strike-idle a b) = still refl refl
 moves-here f (announce a b c) = sends refl f (simp relays)
-moves-here f (release k a b c d e) = still (simp relays) (simp relays)
-moves-here f (garage k a b c) = still (simp relays) (simp relays)
-moves-here f (announcement-arrives k a) = still (simp relays) (simp relays)
+moves-here f (release k a n b c d e) = still (simp relays) (simp relays)
+moves-here f (garage k a n b c) = still (simp relays) (simp relays)
+moves-here f (announcement-arrives k a b) = still (simp relays) (simp relays)
+moves-here f (announcement-jammed k a b) = still (simp relays) (simp relays)
 moves-here f (release-arrives k a b) = frees (received refl f a b) (simp relays) (simp relays)
 moves-here f (announcement-lost k a) = still (simp relays) (simp relays)
 moves-here f (release-lost k a b) = still (simp relays) (simp relays)
 moves-here f (restore k a b c d) = frees (restored refl f) (simp relays) (simp relays)
+moves-here f (button-jams a b) = still (simp relays) (simp relays)
+moves-here f (button-freed a b) = still (simp relays) (simp relays)
 
 -- its neighbour
 moves-other : {m i j p : ℕ} {q o : Post} {b : Pair} → Taken i j q o m b → Moves m i p o (b .other)

@@ -66,8 +66,20 @@ restore-requires c κs = search tests
 with-here-requires-9 : tie.Need-with-here-requires-9
 with-here-requires-9 c κs = search tests
 
+jam-button-requires : tie.Need-jam-button-requires
+jam-button-requires c κs = search tests
+
 with-here-requires-10 : tie.Need-with-here-requires-10
 with-here-requires-10 c κs = search tests
+
+free-button-requires : tie.Need-free-button-requires
+free-button-requires c κs = search tests
+
+with-here-requires-11 : tie.Need-with-here-requires-11
+with-here-requires-11 c κs = search tests
+
+with-here-requires-12 : tie.Need-with-here-requires-12
+with-here-requires-12 c κs = search tests
 
 returns : tie.Need-returns
 unfolding changed
@@ -111,7 +123,15 @@ returns-10 c = rw (c .before .before .match .keys10) cc
 
 returns-11 : tie.Need-returns-11
 unfolding changed
-returns-11 c = search tests
+returns-11 c = rw (c .before .before .match .keys11) cc
+
+returns-12 : tie.Need-returns-12
+unfolding changed
+returns-12 c = rw (c .before .before .match .keys12) cc
+
+returns-13 : tie.Need-returns-13
+unfolding changed
+returns-13 c = search (tests, c .before .match .rest .0 .0 .0 .0 .0 .0)
 
 pub change-spec : {M : Type 1} → statement M
 change-spec =
@@ -138,7 +158,11 @@ change-spec =
     with-here-requires-8
     restore-requires
     with-here-requires-9
+    jam-button-requires
     with-here-requires-10
+    free-button-requires
+    with-here-requires-11
+    with-here-requires-12
     returns
     returns-2
     returns-3
@@ -149,4 +173,6 @@ change-spec =
     returns-8
     returns-9
     returns-10
-    returns-11)
+    returns-11
+    returns-12
+    returns-13)

@@ -27,7 +27,11 @@ returns-5 c = search (tests, Bool·not-not)
 
 returns-6 : tie.Need-returns-6
 unfolding lacks hasSignalPedal hasPassagePedal hasGarageRelease
-returns-6 c = search (tests, Bool·not-not)
+returns-6 c = search (tests, c .if6 .taken)
+
+returns-7 : tie.Need-returns-7
+unfolding lacks hasSignalPedal hasPassagePedal hasGarageRelease
+returns-7 c = search (tests, c .if6 .left)
 
 pub lacks-device-spec : {M : Type 1} → statement M
-lacks-device-spec = tie.close (tie.spec returns returns-2 returns-3 returns-4 returns-5 returns-6)
+lacks-device-spec = tie.close (tie.spec returns returns-2 returns-3 returns-4 returns-5 returns-6 returns-7)

@@ -1,0 +1,68 @@
+-- Whatever befalls a line, and so after any run, a post's release button is jammed, bit 8 of its record, exactly when the history says so.
+-- It is followed through the history (proofs/Followed.antt): only 11 raises the jam of the post named, and 12 drops it.
+-- Assumes nothing.
+use Prim.Native.Nat.{ℕ}
+use mathlib.Core.Path.{_≡_, refl}
+use mathlib.Core.Bool.{true}
+use mathlib.Core.List.{List}
+use borrow.Author.Tests.{ne-eqb}
+use lib.Dec.{eqb}
+use Rattle.relay.specs.Examples.{Event}
+use Rattle.relay.specs.Kinds.{terminus}
+use Rattle.relay.specs.Line.{startable}
+use Rattle.relay.specs.Posts.{at, freshWord}
+use Rattle.relay.specs.Relays.{jam, up, raise}
+use Rattle.relay.specs.declared.Post.{Post}
+use Rattle.relay.proofs.Cases.{button-jams, button-freed}
+use Rattle.relay.proofs.Touched.{touched, here-stays, other-stays}
+use Rattle.relay.proofs.Truth.{equal-or-not, split, pick-same}
+use Rattle.relay.proofs.Word.{relays}
+use Rattle.history.specs.History.{did, isJammed}
+use Rattle.history.specs.Run.{run, begun, at-first}
+use Rattle.history.proofs.Agrees.{and-false}
+use Rattle.history.proofs.Followed.{Moves, Followed, reached-says}
+use Rattle.history.proofs.Reached.{run-reached}
+
+-- event n makes of the jam of the post named what its entry says
+module _ (i t m : ℕ) where
+  abbrev By : ℕ → Type 0
+  By n = Moves jam (did 11) (did 12) i t m n
+
+  by-jamming : By 11
+  unfolding did
+  by-jamming j p o b f r (button-jams x y) = simp (relays, f)
+
+  by-freeing : By 12
+  unfolding did
+  by-freeing j p o b f r (button-freed x y) = simp (relays, f)
+
+  by-any : (n : ℕ) → By n
+  unfolding did touched
+  by-any n j p o b f r T =
+      equal-or-not n 11
+      (λ x. rw x (by-jamming j p o b f r (rw x at T)))
+      (λ x.
+      equal-or-not n 12
+      (λ y. rw y (by-freeing j p o b f r (rw y at T)))
+      (λ y.
+      let eleven = ne-eqb n 11 x in
+      let twelve = ne-eqb n 12 y in
+      simp (eleven, twelve) (here-stays T jam refl (simp (eleven, twelve, pick-same)))))
+
+-- the jam is one that the history says
+pub jam-followed : Followed jam (did 11) (did 12)
+unfolding did freshWord up raise
+jam-followed =
+    record {
+      here = by-any;
+      other = λ T. other-stays T jam refl;
+      away = λ n i m t b f. simp (f, and-false);
+      refused = λ i e n b f. simp f;
+      fresh = λ k. split (eqb k terminus) (λ e. rw e) (λ e. rw e);
+      blank = refl;
+    }
+
+-- so after any run
+pub jam-is : (l : List Post) (ks : List ℕ) (t : ℕ) → startable l ks ≡ true → (es : List Event)
+    → (i : ℕ) → up jam (at (run es (begun l ks t) .line) i .word) ≡ isJammed i (run es (begun l ks t) .history)
+jam-is l ks t e es = reached-says jam-followed l ks t e (run-reached es (begun l ks t) at-first)

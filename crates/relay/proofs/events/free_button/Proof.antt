@@ -1,0 +1,12 @@
+use Rattle.relay.specs.Relays.{up, raise, lower}
+use Rattle.relay.specs.Events.{freed}
+use Rattle.relay.proofs.Tests.{tests}
+use Rattle.relay.proofs.events.free_button.Statement.{statement}
+use Rattle.relay.proofs.events.free_button.Tie as tie
+
+returns : tie.Need-returns
+unfolding freed up raise lower
+returns c = search tests
+
+pub free-button-spec : {M : Type 1} → statement M
+free-button-spec = tie.close (tie.spec returns)

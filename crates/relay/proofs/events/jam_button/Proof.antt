@@ -1,0 +1,12 @@
+use Rattle.relay.specs.Relays.{up, raise, lower}
+use Rattle.relay.specs.Events.{jammed}
+use Rattle.relay.proofs.Tests.{tests}
+use Rattle.relay.proofs.events.jam_button.Statement.{statement}
+use Rattle.relay.proofs.events.jam_button.Tie as tie
+
+returns : tie.Need-returns
+unfolding jammed up raise lower
+returns c = search tests
+
+pub jam-button-spec : {M : Type 1} → statement M
+jam-button-spec = tie.close (tie.spec returns)

@@ -1,0 +1,13 @@
+use mathlib.Core.Bool.{Bool·not-not}
+use Rattle.relay.specs.Relays.{up}
+use Rattle.relay.specs.Events.{jamHinders}
+use Rattle.relay.proofs.Tests.{tests}
+use Rattle.relay.proofs.events.jam_hinders.Statement.{statement}
+use Rattle.relay.proofs.events.jam_hinders.Tie as tie
+
+returns : tie.Need-returns
+unfolding jamHinders up
+returns c = search (tests, Bool·not-not)
+
+pub jam-hinders-spec : {M : Type 1} → statement M
+jam-hinders-spec = tie.close (tie.spec returns)

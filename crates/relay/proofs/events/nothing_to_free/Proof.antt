@@ -1,0 +1,13 @@
+use mathlib.Core.Bool.{Bool·not-not}
+use Rattle.relay.specs.Relays.{up}
+use Rattle.relay.specs.Events.{nothingToFree}
+use Rattle.relay.proofs.Tests.{tests}
+use Rattle.relay.proofs.events.nothing_to_free.Statement.{statement}
+use Rattle.relay.proofs.events.nothing_to_free.Tie as tie
+
+returns : tie.Need-returns
+unfolding nothingToFree up
+returns c = search (tests, Bool·not-not)
+
+pub nothing-to-free-spec : {M : Type 1} → statement M
+nothing-to-free-spec = tie.close (tie.spec returns)
