@@ -46,13 +46,14 @@ S 0 3 1 2 1 1 0 1 1 1
 S 1 1 0 0 0 0 0 0 0 1
 ";
 
-/// Questions of since when, and the line that answers each: 8, 9 and 13 among jams.
-pub const SINCE: [(u32, &str); 5] = [
-    (19, "0\n"),
-    (21, "20 5 1 0\n"),
-    (26, "25 5 0 0\n"),
-    (7, "refused 29 0\n"),
-    (10, "refused 29 0\n"),
+/// Questions of since when, by the program's words, and what it prints of the worked
+/// sheet: 8, 9 and 13 among jams; 22 and 23, which are not asked about.
+pub const SINCE: &[(&[&str], &str)] = &[
+    (&["why", "19"], "0\n"),
+    (&["why", "21"], "20 5 1 0\n"),
+    (&["why", "26"], "25 5 0 0\n"),
+    (&["why", "7"], "refused 29 0\n"),
+    (&["why", "10"], "refused 29 0\n"),
 ];
 
 /// The events with the answers that the listing gives them.

@@ -3,7 +3,7 @@
 mod common;
 
 use common::{fresh, sheet, work_whole};
-use model::program::{wrote, Asked, Wrote};
+use model::program::{asked, wrote, Wrote};
 use model::relay::{AN, JAM, KPG, L, RL, W241, W314};
 use model::*;
 
@@ -27,9 +27,9 @@ fn the_listing_byte_for_byte() {
     assert_eq!(listing(&handed_in), stuck::LISTING);
     let answered = sheet(&stuck::KINDS, 0, &stuck::answered());
     assert_eq!(work_whole(&handed_in), answered);
-    for (position, text) in stuck::SINCE {
-        let given = wrote(Asked::Why(position), &answered);
-        assert_eq!(given, Wrote::printing(text), "{position}");
+    for (words, text) in stuck::SINCE {
+        let given = asked(words).map(|asked| wrote(asked, &answered));
+        assert_eq!(given, Some(Wrote::printing(text)), "{words:?}");
     }
 }
 
