@@ -26,17 +26,22 @@ extern "C" {
 /* A sheet is at most DESK_SHEET bytes and DESK_EVENTS events; a line has 2 to DESK_POSTS posts. */
 enum { DESK_POSTS = 32, DESK_EVENTS = 3780, DESK_BLOCK = 512, DESK_SHEET = 32768 };
 
-/* The relays, as bits of the word of a post. */
+/*
+ * The relays, as bits of the word of a post. DESK_JAM is up while the release button of the post is stuck; it is
+ * always down at the origin, which has no such button. All other bits are zero.
+ */
 enum {
     DESK_AN = 1, DESK_KPG = 2, DESK_L = 4, DESK_RL = 8,
-    DESK_LEVER = 16, DESK_SIGNAL = 32, DESK_W314 = 64, DESK_W241 = 128
+    DESK_LEVER = 16, DESK_SIGNAL = 32, DESK_W314 = 64, DESK_W241 = 128,
+    DESK_JAM = 256
 };
 
 /*
  * The record of a post: its relays, its kind (0 origin, 1 terminus, 2 station that blocks at the signal pedal,
  * 3 station that blocks at the announcement, 4 intermediate post), and nine counts. Of the section downstream:
- * announcements sent a, announcements lost x, releases lost y, releases received v, restorations g. Of the section
- * upstream: announcements received r, passages recorded q, releases sent e, of which garage releases c.
+ * announcements sent a, announcements lost x (on the circuit, or to a jam of the post that they reach), releases
+ * lost y, releases received v, restorations g. Of the section upstream: announcements received r, passages recorded
+ * q, releases sent e, of which garage releases c.
  */
 struct desk_post {
     uint32_t word, kind;
@@ -49,7 +54,7 @@ struct desk_head {
     uint32_t taken, last;
 };
 
-/* An answer (0 to 17) and the head after it. */
+/* An answer (of a start 0 or 1; of an event 0 to 17, 22 or 23) and the head after it. */
 struct desk_told {
     uint32_t answer;
     struct desk_head head;
@@ -83,7 +88,7 @@ struct desk_since {
     uint32_t number, block, position;
 };
 
-/* An event of a sheet: its number, its post or section, its answer (31: not yet answered), its stamp. */
+/* An event of a sheet: its number, its post (8, 9, 10: its section), its answer (31: not yet answered), its stamp. */
 typedef uint32_t desk_entry[4];
 
 /* Whether the n records may be used as a line with this head ('A line that may be used'). Writes nothing. */
@@ -96,9 +101,13 @@ bool desk_valid(const struct desk_post *row, size_t n, struct desk_head head);
 struct desk_told desk_start(struct desk_post *row, size_t n, const uint32_t *kinds, size_t k, uint32_t stamp);
 
 /*
- * One event at a post (for events 8, 9, 10: at a section). 0: taken; the post and at most one neighbour are altered
- * by the rule of the event, and the head has one event more and this stamp. Any other answer, 1 to 17 in the paper's
- * order: every record and the head are as they were.
+ * One event at a post (for events 8, 9, 10: at a section). The events are 1 to 12; another number is answered 3.
+ * 0: taken; the post and at most one neighbour are altered by the rule of the event, and the head has one event more
+ * and this stamp. Any other answer, 1 to 17, 22 or 23, in the paper's order (22 and 23 right after 6): every record and
+ * the head are as they were.
+ * Event 11, the release button jams, raises DESK_JAM of its post; event 12, it is freed, drops it. At a jammed post
+ * events 6, 7 and 11 are answered 22, and an announcement that arrives is taken off the circuit and counted in x: the
+ * arrival is answered 0, and An and r stay. Event 12 at a post that is not jammed is answered 23.
  */
 struct desk_told desk_event(struct desk_post *row, size_t n, struct desk_head head, uint32_t number, uint32_t place,
                             uint32_t stamp);
@@ -122,9 +131,9 @@ uint32_t desk_write(const uint32_t *kinds, size_t k, uint32_t stamp, const desk_
 
 /*
  * Works a sheet: takes its events one after the other from the fresh line of its table, and writes the same sheet
- * with the answers filled in and the checks renewed to the front of `out`; the bytes past it stay. 18, 19 and 20 as
- * desk_test; 20 with its block at the first event that is answered already; 21 where out is shorter than the sheet.
- * A refusal leaves out as it was.
+ * with the answers of desk_event filled in and the checks renewed to the front of `out`; the bytes past it stay. 18, 19
+ * and 20 as desk_test; 20 with its block at the first event that is answered already; 21 where out is shorter than the
+ * sheet. A refusal leaves out as it was.
  */
 struct desk_worked desk_work(const uint8_t *sheet, size_t n, uint8_t *out, size_t room);
 

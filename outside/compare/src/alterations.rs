@@ -1,6 +1,6 @@
 //! What other hands may do to a line: relays, counts, kinds, records, the head.
 
-use model::Post;
+use model::{relay, Post};
 
 use crate::histories::Play;
 use crate::random::Random;
@@ -23,13 +23,24 @@ fn alter_count(random: &mut Random, play: &mut Play, change: impl Fn(u32) -> u32
 }
 
 pub fn flip_relay(random: &mut Random, play: &mut Play) {
-    let bit = random.below(8);
+    let bit = random.below(9);
     some_post(random, play).word ^= 1 << bit;
 }
 
+/// A bit that is no relay, often the first of them.
 pub fn flip_upper(random: &mut Random, play: &mut Play) {
-    let bit = random.between(8, 31);
+    let any = random.between(9, 31);
+    let bit = random.pick(&[9, any]);
     some_post(random, play).word ^= 1 << bit;
+}
+
+/// Allowed at every post but the origin, whatever else is up there.
+pub fn flip_jam(random: &mut Random, play: &mut Play) {
+    some_post(random, play).word ^= relay::JAM;
+}
+
+pub fn jam_origin(_: &mut Random, play: &mut Play) {
+    play.row[0].word |= relay::JAM;
 }
 
 pub fn count_more(random: &mut Random, play: &mut Play) {
@@ -155,8 +166,8 @@ pub fn any_relays(random: &mut Random, play: &mut Play) {
     for post in &mut play.row {
         let can_have = match post.kind {
             0 => 0xFC,
-            1 => 0x33,
-            _ => 0xFF,
+            1 => 0x133,
+            _ => 0x1FF,
         };
         if random.chance(30) {
             post.word = random.word() & can_have;

@@ -2,10 +2,10 @@
 
 use model::{BLOCK_BYTES, CHECK, EVENTS_PER_BLOCK};
 
-use crate::histories::{some_posts, table};
+use crate::histories::{some_posts, stuck_event, table};
 use crate::random::Random;
 use crate::request::padded;
-use crate::sheets::{blocks, get, lively_sheet, put, renew, renewed, some, Sheet};
+use crate::sheets::{blocks, get, lively_sheet, put, renew, renewed, sheet_by, some, Sheet};
 
 /// A kind of sheet: its name and its maker.
 pub type Kind = (&'static str, fn(&mut Random) -> Vec<u8>);
@@ -13,6 +13,7 @@ pub type Kind = (&'static str, fn(&mut Random) -> Vec<u8>);
 pub const KINDS: &[Kind] = &[
     ("good, unanswered", |random| some(random, 0).bytes()),
     ("good, any fields", |random| any_fields(random).bytes()),
+    ("good, stuck buttons", stuck_buttons),
     ("worked", worked),
     ("partly answered", partly_answered),
     ("answered in any block", answered_in_any_block),
@@ -75,6 +76,12 @@ fn any_fields(random: &mut Random) -> Sheet {
         }
     }
     sheet
+}
+
+fn stuck_buttons(random: &mut Random) -> Vec<u8> {
+    let posts = some_posts(random);
+    let count = random.between(20, 3 * EVENTS_PER_BLOCK);
+    sheet_by(random, posts, count, stuck_event).bytes()
 }
 
 fn worked(random: &mut Random) -> Vec<u8> {

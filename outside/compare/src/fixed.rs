@@ -1,9 +1,9 @@
 //! The working program's fixed cases, always run: sheets to list.
 
 use model::program::{asked, wrote, Wrote};
-use model::{paper, Entry, MOST_EVENTS, UNANSWERED};
+use model::{paper, stuck, Entry, MOST_EVENTS, UNANSWERED};
 
-use crate::histories::{lively_event, near_stamp, Play};
+use crate::histories::{near_stamp, stuck_pupils_event, Play};
 use crate::random::Random;
 use crate::sheets::{lively_sheet, put, renewed, Sheet};
 
@@ -21,18 +21,24 @@ pub const BUILT: u64 = 101;
 /// A sheet of kinds 0, 1 from stamp 0; event k is stamped 1000k.
 pub fn short_sheet(events: &[(u32, u32)]) -> Sheet {
     let entry = |(k, &(number, post)): (u32, &(u32, u32))| [number, post, UNANSWERED, 1000 * k];
-    Sheet {
-        kinds: vec![0, 1],
-        stamp: 0,
-        events: (1..).zip(events).map(entry).collect(),
-    }
+    from_0(&[0, 1], (1..).zip(events).map(entry).collect())
 }
 
 pub fn papers_sheet() -> Sheet {
+    from_0(&paper::KINDS, paper::unanswered())
+}
+
+/// The sheet in which 11 and 12 are taken and 22 and 23 given.
+pub fn stuck_sheet() -> Sheet {
+    from_0(&stuck::KINDS, stuck::unanswered())
+}
+
+/// A sheet that starts at stamp 0.
+pub fn from_0(kinds: &[u32], events: Vec<Entry>) -> Sheet {
     Sheet {
-        kinds: paper::KINDS.to_vec(),
+        kinds: kinds.to_vec(),
         stamp: 0,
-        events: paper::unanswered(),
+        events,
     }
 }
 
@@ -71,12 +77,12 @@ pub fn sheet_of_everything() -> Sheet {
     let mut play = Play::from_start(&kinds, stamp);
     let mut random = Random::of_case(0, BUILT, 0);
     let mut events: Vec<Entry> = Vec::new();
-    let mut answers = [false; 18];
-    let mut taken = [false; 11];
+    let mut answers = [false; 24];
+    let mut taken = [false; 13];
     while events.len() < 1500 {
         let mut before = play.clone();
         let at = near_stamp(&mut random, play.head.last);
-        let [number, place, stamp] = lively_event(&mut random, &mut play, at);
+        let [number, place, stamp] = stuck_pupils_event(&mut random, &mut play, at);
         let answer = before.take([number, place, stamp]);
         answers[answer as usize] = true;
         if answer == 0 {
@@ -84,7 +90,7 @@ pub fn sheet_of_everything() -> Sheet {
         }
         events.push([number, place, UNANSWERED, stamp]);
     }
-    for answer in [0, 2, 3, 4].into_iter().chain(6..=17) {
+    for answer in [0, 2, 3, 4].into_iter().chain(6..=17).chain([22, 23]) {
         assert!(answers[answer], "the built sheet lacks answer {answer}");
     }
     assert!(
@@ -106,6 +112,11 @@ pub fn fixed_cases() -> Vec<Fixed> {
             "the paper's fifteen events",
             papers_sheet().bytes(),
             paper::LISTING,
+        ),
+        listed(
+            "a button sticks and is freed",
+            stuck_sheet().bytes(),
+            stuck::LISTING,
         ),
         listed("a header alone", header, "S 0 0 0 0 0 0 0 0 0 0\n"),
         refused("empty input", vec![], 18, 0),

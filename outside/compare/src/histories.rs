@@ -1,7 +1,9 @@
-//! Histories on a right table: lively, wild, and round the clock's turn.
+//! Histories on a right table: lively, with stuck buttons, wild, and round the clock's
+//! turn.
 
 use model::{relay, Head, Post};
 
+use crate::buttons::about_a_button;
 use crate::random::Random;
 use crate::request::{Request, Step};
 use crate::variety::Variety;
@@ -15,6 +17,9 @@ pub const LIVELY: &[Variety] = &[
     ("kind 3 inside", |random| lively_inside(random, 3)),
     ("kind 4 inside", |random| lively_inside(random, 4)),
     ("long", long),
+    ("stuck buttons, two posts", |random| stuck(random, 2, 2)),
+    ("stuck buttons, few posts", |random| stuck(random, 3, 5)),
+    ("stuck buttons, more posts", |random| stuck(random, 6, 16)),
 ];
 
 pub const WILD: &[Variety] = &[
@@ -40,6 +45,15 @@ const DIFFERENCES: [u32; 6] = [0, 1, 0x7FFF_FFFF, 0x8000_0000, 0x8000_0001, 0xFF
 const TRIED: [u32; 24] = [
     1, 1, 2, 2, 3, 3, 3, 4, 4, 5, 5, 5, 6, 6, 6, 7, 7, 8, 8, 8, 8, 9, 10, 10,
 ];
+
+/// The last event, and the last of those that 01 has.
+const LAST: u32 = 12;
+const LAST_OF_01: u32 = 10;
+
+/// How often in a hundred events a button is thought of, and how often an event about a
+/// free one is then made of it: in a lively history, and where buttons stick.
+const SELDOM: [usize; 2] = [20, 6];
+const OFTEN: [usize; 2] = [40, 15];
 
 /// A line as the model plays it.
 #[derive(Clone)]
@@ -79,10 +93,13 @@ pub fn some_posts(random: &mut Random) -> usize {
     }
 }
 
-fn any_event(random: &mut Random, posts: usize) -> (u32, u32) {
+/// The next event of a history at this stamp, already played.
+pub type Next = fn(&mut Random, &mut Play, u32) -> Step;
+
+fn any_event(random: &mut Random, posts: usize, last: u32) -> (u32, u32) {
     let number = match random.below(8) {
         0 => random.small(0, 31),
-        _ => random.small(1, 10),
+        _ => random.small(1, last),
     };
     let place = random.below(posts + 2) as u32;
     (number, place)
@@ -99,6 +116,50 @@ fn alters(post: &Post, number: u32) -> bool {
 
 /// One event at this stamp, already played: most often one that is taken.
 pub fn lively_event(random: &mut Random, play: &mut Play, stamp: u32) -> Step {
+    about_or(random, play, stamp, SELDOM, traffic)
+}
+
+/// The same where buttons stick.
+pub fn stuck_event(random: &mut Random, play: &mut Play, stamp: u32) -> Step {
+    about_or(random, play, stamp, OFTEN, traffic)
+}
+
+/// An event about a button so often, else another.
+fn about_or(
+    random: &mut Random,
+    play: &mut Play,
+    stamp: u32,
+    [thought_of, free]: [usize; 2],
+    other: Next,
+) -> Step {
+    let thought_of = random.chance(thought_of);
+    let about = thought_of.then(|| about_a_button(random, &play.row, free));
+    let Some((number, place)) = about.flatten() else {
+        return other(random, play, stamp);
+    };
+    let step = [number, place, stamp];
+    play.take(step);
+    step
+}
+
+fn traffic(random: &mut Random, play: &mut Play, stamp: u32) -> Step {
+    traffic_up_to(random, play, stamp, LAST)
+}
+
+/// The same as before there were jams, for `exercise`, which writes what it always wrote:
+/// 11 and 12 come up seldom, and what follows is chosen as if they were refused.
+pub fn ordinary_event(random: &mut Random, play: &mut Play, stamp: u32) -> Step {
+    let before = play.clone();
+    let step = traffic_up_to(random, play, stamp, LAST_OF_01);
+    if step[0] > LAST_OF_01 {
+        *play = before;
+    }
+    step
+}
+
+/// One event, already played: most often one that is taken, of those of 01; else any
+/// number, seldom past this last one.
+fn traffic_up_to(random: &mut Random, play: &mut Play, stamp: u32, last: u32) -> Step {
     let posts = play.row.len();
     let tries = if random.chance(15) { 0 } else { 14 };
     for _ in 0..tries {
@@ -111,7 +172,7 @@ pub fn lively_event(random: &mut Random, play: &mut Play, stamp: u32) -> Step {
             return step;
         }
     }
-    let (number, place) = any_event(random, posts);
+    let (number, place) = any_event(random, posts, last);
     let step = [number, place, stamp];
     play.take(step);
     step
@@ -161,6 +222,11 @@ pub fn pupils_event(random: &mut Random, play: &mut Play, stamp: u32) -> Step {
     lively_event(random, play, stamp)
 }
 
+/// The same where buttons stick.
+pub fn stuck_pupils_event(random: &mut Random, play: &mut Play, stamp: u32) -> Step {
+    about_or(random, play, stamp, OFTEN, pupils_event)
+}
+
 /// A stamp not far from the last, now and then behind it.
 pub fn near_stamp(random: &mut Random, last: u32) -> u32 {
     match random.below(30) {
@@ -173,24 +239,30 @@ pub fn near_stamp(random: &mut Random, last: u32) -> u32 {
 fn lively(random: &mut Random, least: usize, most: usize, events: usize) -> Request {
     let posts = random.between(least, most);
     let kinds = table(random, posts);
-    lively_on(random, kinds, events)
+    history(random, kinds, events, lively_event)
+}
+
+fn stuck(random: &mut Random, least: usize, most: usize) -> Request {
+    let posts = random.between(least, most);
+    let kinds = table(random, posts);
+    history(random, kinds, 300, stuck_event)
 }
 
 fn lively_inside(random: &mut Random, kind: u32) -> Request {
     let posts = random.between(3, 6);
     let mut kinds = table(random, posts);
     kinds[1..posts - 1].fill(kind);
-    lively_on(random, kinds, 300)
+    history(random, kinds, 300, lively_event)
 }
 
-fn lively_on(random: &mut Random, kinds: Vec<u32>, most: usize) -> Request {
+fn history(random: &mut Random, kinds: Vec<u32>, most: usize, next: Next) -> Request {
     let count = random.between(most / 4, most);
     let stamp = random.edge_word();
     let mut play = Play::from_start(&kinds, stamp);
     let mut steps = Vec::with_capacity(count);
     for _ in 0..count {
         let at = near_stamp(random, play.head.last);
-        steps.push(lively_event(random, &mut play, at));
+        steps.push(next(random, &mut play, at));
     }
     Request::Run {
         kinds,
@@ -226,14 +298,14 @@ fn wild(random: &mut Random, chances: [usize; 3]) -> Request {
 }
 
 pub fn wild_step(random: &mut Random, play: &Play, chances: [usize; 3]) -> Step {
-    let (mut number, mut place) = any_event(random, play.row.len().max(2));
+    let (mut number, mut place) = any_event(random, play.row.len().max(2), LAST);
     let mut stamp = near_stamp(random, play.head.last);
     if random.chance(chances[0]) {
         number = match random.below(4) {
             0 => random.small(0, 31),
-            1 => random.pick(&[0, 11, 12, 16, 31, 32, 33, 42, 256 + 1]),
+            1 => random.pick(&[0, 13, 14, 16, 31, 32, 33, 42, 43, 256 + 1, 256 + 11]),
             2 => random.edge_word(),
-            _ => random.small(8, 11),
+            _ => random.small(8, LAST + 1),
         };
     }
     if random.chance(chances[1]) {

@@ -1,8 +1,10 @@
 //! Compares a block desk's library, or its working program, with the outside model.
 
 pub mod alterations;
+pub mod buttons;
 pub mod cases;
 pub mod child;
+pub mod counts;
 pub mod damage;
 mod describe;
 pub mod desk;
@@ -10,6 +12,7 @@ pub mod failing;
 pub mod fixed;
 pub mod full;
 pub mod histories;
+pub mod moments;
 pub mod program;
 pub mod questions;
 pub mod ran;

@@ -4,7 +4,7 @@
 use model::{BLOCK_BYTES, MOST_BLOCKS};
 
 use crate::damage::{break_check, break_contents, KINDS};
-use crate::histories::{pupils_event, some_posts};
+use crate::histories::{pupils_event, some_posts, stuck_pupils_event};
 use crate::random::Random;
 use crate::request::Request;
 use crate::sheets::{blocks, renew, sheet_by, some, Sheet};
@@ -12,6 +12,9 @@ use crate::variety::Variety;
 
 /// The answers that may be asked about.
 pub const TOLD: [u32; 3] = [8, 9, 13];
+
+/// The answers that a jam gives.
+pub const OF_JAMS: [u32; 2] = [22, 23];
 
 pub const QUESTIONS: &[Variety] = &[
     ("8, few posts", |random| told(random, 8, few)),
@@ -25,6 +28,13 @@ pub const QUESTIONS: &[Variety] = &[
     ("13, many posts", |random| told(random, 13, many)),
     ("8, long history", |random| told(random, 8, long)),
     ("13, long history", |random| told(random, 13, long)),
+    ("8, stuck buttons", |random| told(random, 8, stuck)),
+    ("9, stuck buttons", |random| told(random, 9, stuck)),
+    ("13, stuck buttons", |random| told(random, 13, stuck)),
+    ("22 or 23, stuck buttons", |random| {
+        let (sheet, at) = chosen(random, &OF_JAMS, stuck);
+        ask(sheet.bytes(), at as u32 + 1)
+    }),
     ("any event", |random| {
         let sheet = few(random);
         let position = random.between(1, sheet.events.len());
@@ -107,6 +117,11 @@ fn long(random: &mut Random) -> Sheet {
     worked(random, posts, 300)
 }
 
+fn stuck(random: &mut Random) -> Sheet {
+    let (posts, count) = (random.between(2, 5), random.between(20, 120));
+    sheet_by(random, posts, count, stuck_pupils_event).worked()
+}
+
 fn many(random: &mut Random) -> Sheet {
     let posts = random.between(6, 32);
     worked(random, posts, 180)
@@ -133,7 +148,8 @@ fn told(random: &mut Random, answer: u32, make: Maker) -> Request {
 }
 
 fn another_answer(random: &mut Random) -> Request {
-    let others: Vec<u32> = (0..=17).filter(|answer| !TOLD.contains(answer)).collect();
+    let all = (0..=17).chain(OF_JAMS);
+    let others: Vec<u32> = all.filter(|answer| !TOLD.contains(answer)).collect();
     // Most events are taken, so that a refusal is wanted as often.
     let wanted = random.pick(&[&others[..], &others[1..]]);
     let (sheet, at) = chosen(random, wanted, few);
@@ -217,7 +233,7 @@ fn own_altered(random: &mut Random) -> Request {
 /// Some event was not refused 8, 9 or 13, and the sheet says that it was: its post may be
 /// none of the line.
 fn made_up(random: &mut Random) -> Request {
-    let (mut sheet, at) = chosen(random, &[0, 2, 3, 6, 7, 14], few);
+    let (mut sheet, at) = chosen(random, &[0, 2, 3, 6, 7, 14, 22, 23], few);
     sheet.events[at][2] = random.pick(&TOLD);
     ask(sheet.bytes(), at as u32 + 1)
 }

@@ -4,6 +4,7 @@
 use model::{relay, Head, Post, COUNT_LIMIT};
 
 use crate::alterations::*;
+use crate::buttons::{at_a_jammed_post, some_jammed_post};
 use crate::histories::{lively_event, near_stamp, some_posts, table, wild_step, Play};
 use crate::random::Random;
 use crate::request::Request;
@@ -26,6 +27,8 @@ pub const ALTERED: &[Variety] = &[
     ("nothing altered", |random| altered(random, |_, _| ())),
     ("relay flipped", |random| altered(random, flip_relay)),
     ("upper bit flipped", |random| altered(random, flip_upper)),
+    ("jam flipped", |random| altered(random, flip_jam)),
+    ("jam at the origin", |random| altered(random, jam_origin)),
     ("count one more", |random| altered(random, count_more)),
     ("count one less", |random| altered(random, count_less)),
     ("counts moved", |random| altered(random, move_counts)),
@@ -42,6 +45,9 @@ pub const ALTERED: &[Variety] = &[
     }),
     ("relay flipped, counts solved", |random| {
         built(random, flip_relay)
+    }),
+    ("jam at the origin, counts solved", |random| {
+        built(random, jam_origin)
     }),
     ("relays any, counts solved", |random| {
         built(random, any_relays)
@@ -89,13 +95,17 @@ fn asked(random: &mut Random, mut play: Play, change: Alteration) -> Request {
             head: play.head,
         };
     }
-    let step = match random.below(4) {
+    let step = match (random.below(5), some_jammed_post(random, &play.row)) {
         // An event that the line would have taken before the alteration.
-        0 | 1 => {
+        (0 | 1, _) => {
             let stamp = near_stamp(random, ahead.head.last);
             lively_event(random, &mut ahead, stamp)
         }
-        2 => wild_step(random, &play, [10, 10, 10]),
+        (2, Some(post)) => {
+            let (number, place) = at_a_jammed_post(random, post);
+            [number, place, near_stamp(random, play.head.last)]
+        }
+        (3, _) => wild_step(random, &play, [10, 10, 10]),
         _ => wild_step(random, &play, [0, 0, 0]),
     };
     Request::Event {
@@ -144,7 +154,7 @@ fn odd_length(random: &mut Random) -> Request {
         return Request::Valid { row, head };
     }
     let step = [
-        random.small(1, 10),
+        random.small(1, 12),
         random.below(posts + 1) as u32,
         head.last,
     ];

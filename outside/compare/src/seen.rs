@@ -4,16 +4,14 @@ use std::cmp::Ordering;
 
 use model::Entry;
 
-use crate::questions::TOLD;
+use crate::counts::Wanted;
+use crate::questions::{OF_JAMS, TOLD};
 use crate::sheets::Sheet;
 
 /// Each of `SEEN` is wanted at least once in so many questions.
 pub const RARELY: u64 = 100;
 
-/// What is wanted, and whether a question has it.
-type Wanted = (&'static str, fn(&Question) -> bool);
-
-pub const SEEN: &[Wanted] = &[
+pub const SEEN: &[Wanted<Question>] = &[
     ("8 since an event", |q| q.since(8) && q.named > 0),
     ("8 since a strike, announced since", |q| {
         q.since(8) && q.is_named(4) && q.announced_since()
@@ -46,6 +44,15 @@ pub const SEEN: &[Wanted] = &[
     }),
     ("29, another refusal", |q| {
         q.all_right() && q.chosen().is_some_and(|event| event[2] != 0)
+    }),
+    ("29, refused 22 or 23", |q| {
+        q.all_right() && q.chosen().is_some_and(|event| OF_JAMS.contains(&event[2]))
+    }),
+    ("8, 9 or 13, jammed since the event named", |q| {
+        q.number == 0 && q.had(q.named, |event| event[0] == 11 && event[2] == 0)
+    }),
+    ("8, 9 or 13, refused 22 before", |q| {
+        q.number == 0 && q.had(0, |event| event[2] == 22)
     }),
     ("18", |q| q.number == 18),
     ("19", |q| q.number == 19),
@@ -102,12 +109,15 @@ impl Question {
         self.at(self.named).is_some_and(|event| event[0] == number)
     }
 
-    /// An announcement of the chosen event's post was taken after the event named.
-    fn announced_since(&self) -> bool {
-        let announced = |event: &&Entry| event[0] == 5 && event[2] == 0;
-        let since = self.events()[self.named as usize..self.position as usize].iter();
+    /// The chosen event's post had such an event before it, after this position.
+    fn had(&self, after: u32, such: fn(&Entry) -> bool) -> bool {
+        let mut between = self.events()[after as usize..self.position as usize].iter();
         let post = self.chosen().map(|event| event[1]);
-        since.filter(announced).any(|event| Some(event[1]) == post)
+        between.any(|event| such(event) && Some(event[1]) == post)
+    }
+
+    fn announced_since(&self) -> bool {
+        self.had(self.named, |event| event[0] == 5 && event[2] == 0)
     }
 
     /// 29, and nothing is wrong but one answer, which stands so to the chosen event.

@@ -2,9 +2,8 @@
 
 use model::{renew_check, Entry, BLOCK_BYTES, EVENTS_PER_BLOCK, MOST_EVENTS, UNANSWERED};
 
-use crate::histories::{lively_event, near_stamp, some_posts, table, Play};
+use crate::histories::{lively_event, near_stamp, some_posts, table, Next, Play};
 use crate::random::Random;
-use crate::request::Step;
 
 /// A table, a start stamp and events.
 #[derive(Clone)]
@@ -73,9 +72,7 @@ pub fn lively_sheet(random: &mut Random, posts: usize, count: usize) -> Sheet {
     sheet_by(random, posts, count, lively_event)
 }
 
-/// The next event of a history at this stamp, already played.
-type Next = fn(&mut Random, &mut Play, u32) -> Step;
-
+/// An unanswered sheet of a history of such events.
 pub fn sheet_by(random: &mut Random, posts: usize, count: usize, next: Next) -> Sheet {
     let kinds = table(random, posts);
     let stamp = random.edge_word();

@@ -9,7 +9,7 @@ use crate::random::Random;
 
 /// Relays chosen within the rules, one post and its section downstream at a time.
 fn right_relays(random: &mut Random, row: &mut [Post]) {
-    use relay::{AN, KPG, L, LEVER, RL, SIGNAL, W241, W314};
+    use relay::{AN, JAM, KPG, L, LEVER, RL, SIGNAL, W241, W314};
     for at in 0..row.len() {
         if row[at].kind == 1 {
             row[at].word |= random.pick(&[0, LEVER, LEVER | SIGNAL]);
@@ -22,6 +22,10 @@ fn right_relays(random: &mut Random, row: &mut [Post]) {
         } else {
             row[at].word |= RL | random.pick(&[0, L, LEVER, L | LEVER | SIGNAL]);
         }
+    }
+    // The jam goes with all of them; the origin has none.
+    for post in &mut row[1..] {
+        post.word |= random.pick(&[0, 0, 0, JAM]);
     }
 }
 

@@ -3,14 +3,19 @@
 use std::fmt::Write;
 
 use crate::cases::{Case, Sort, ALTERED_ROWS};
+use crate::counts::Counts;
+use crate::moments::{Altered, Moment, ALTERED, MOMENTS};
 use crate::request::{Request, POST_WORDS};
 use crate::seen::{Question, RARELY, SEEN};
 
-pub const ANSWERS: usize = 22;
+/// The numbers that a call can return: 0 to 23, and 29.
+const ANSWERS: [usize; 25] = [
+    0, 1, 2, 3, 4, 5, 6, 7, 8, 9, 10, 11, 12, 13, 14, 15, 16, 17, 18, 19, 20, 21, 22, 23, 29,
+];
 
 /// The events which can be taken at each kind (for 8, 9 and 10: the kind of the
 /// section's upstream post).
-const CAN_BE_TAKEN: [(usize, &[usize]); 10] = [
+const CAN_BE_TAKEN: [(usize, &[usize]); 12] = [
     (1, &[0, 1, 2, 3, 4]),
     (2, &[0, 1, 2, 3, 4]),
     (3, &[1, 2, 3, 4]),
@@ -21,17 +26,19 @@ const CAN_BE_TAKEN: [(usize, &[usize]); 10] = [
     (8, &[0, 2, 3, 4]),
     (9, &[0, 2, 3, 4]),
     (10, &[0, 2, 3, 4]),
+    (11, &[1, 2, 3, 4]),
+    (12, &[1, 2, 3, 4]),
 ];
 
-#[derive(Default)]
 pub struct Tally {
     pub cases: Vec<Vec<u64>>,
     pub events: Vec<u64>,
-    pub answers: [u64; ANSWERS],
+    pub answers: [u64; 32],
     pub altered_valid: u64,
-    pub taken: [[u64; 5]; 11],
-    pub questions: u64,
-    pub seen: [u64; SEEN.len()],
+    pub taken: [[u64; 5]; 13],
+    pub moments: Counts<Moment>,
+    pub altered: Counts<Altered>,
+    pub questions: Counts<Question>,
 }
 
 impl Tally {
@@ -39,7 +46,12 @@ impl Tally {
         Tally {
             cases: sorts.iter().map(|s| vec![0; s.varieties.len()]).collect(),
             events: vec![0; sorts.len()],
-            ..Tally::default()
+            answers: [0; 32],
+            altered_valid: 0,
+            taken: [[0; 5]; 13],
+            moments: Counts::new("events in histories", MOMENTS),
+            altered: Counts::new("altered rows", ALTERED),
+            questions: Counts::new("questions of since when", SEEN),
         }
     }
 
@@ -52,56 +64,52 @@ impl Tally {
                 self.add_history(kinds, steps, &case.expected);
             }
             Request::Valid { .. } => {}
-            Request::Why { sheet, position } => {
-                self.add_question(&Question::new(sheet, *position, &case.expected));
-            }
             _ => self.answers[first as usize] += 1,
         }
+        if let Request::Why { sheet, position } = &case.request {
+            let question = Question::new(sheet, *position, &case.expected);
+            self.questions.add(&question);
+        }
         if sorts[case.sort].name == ALTERED_ROWS {
-            let valid = match case.request {
-                Request::Valid { .. } => first == 1,
-                _ => first != 1,
-            };
-            self.altered_valid += u64::from(valid);
+            self.add_altered(&case.request, first);
         }
     }
 
     fn add_history(&mut self, kinds: &[u32], steps: &[[u32; 3]], expected: &[u32]) {
         let size = 3 + kinds.len() * POST_WORDS;
         self.answers[expected[0] as usize] += 1;
-        for (step, told) in steps.iter().zip(expected.chunks(size).skip(1)) {
-            self.answers[told[0] as usize] += 1;
-            if told[0] == 0 {
+        let told: Vec<&[u32]> = expected.chunks(size).collect();
+        for (&step, pair) in steps.iter().zip(told.windows(2)) {
+            let (records, answer) = (&pair[0][3..], pair[1][0]);
+            self.answers[answer as usize] += 1;
+            if answer == 0 {
                 let kind = kinds[step[1] as usize];
                 self.taken[step[0] as usize][kind as usize] += 1;
             }
+            self.moments.add(&Moment::new(records, step, answer));
         }
     }
 
-    fn add_question(&mut self, question: &Question) {
-        self.questions += 1;
-        for (count, (_, has)) in self.seen.iter_mut().zip(SEEN) {
-            *count += u64::from(has(question));
-        }
-    }
-
-    /// The questions that were asked too rarely, one line for each.
-    fn rarely_asked(&self) -> Vec<String> {
-        let least = (self.questions / RARELY).max(1);
-        let counts = self.seen.iter().zip(SEEN);
-        counts
-            .filter(|(count, _)| **count < least)
-            .map(|(count, (name, _))| {
-                format!("questions, {name}: {count}, and at least {least} are wanted")
-            })
-            .collect()
+    fn add_altered(&mut self, request: &Request, first: u32) {
+        let (row, head, valid, told) = match request {
+            Request::Valid { row, head } => (row, *head, first == 1, None),
+            Request::Event { row, head, step } => (row, *head, first != 1, Some((*step, first))),
+            _ => return,
+        };
+        self.altered_valid += u64::from(valid);
+        self.altered.add(&Altered {
+            row: row.clone(),
+            head,
+            valid,
+            told,
+        });
     }
 
     /// What was wanted and never seen, or too rarely, one line for each.
     pub fn missing(&self, sorts: &[Sort]) -> Vec<String> {
         let mut lines = Vec::new();
-        for (answer, count) in self.answers.iter().enumerate() {
-            if *count == 0 {
+        for answer in ANSWERS {
+            if self.answers[answer] == 0 {
                 lines.push(format!("answer {answer} was never seen"));
             }
         }
@@ -119,7 +127,9 @@ impl Tally {
                 }
             }
         }
-        lines.extend(self.rarely_asked());
+        lines.extend(self.moments.rare(u64::MAX));
+        lines.extend(self.altered.rare(u64::MAX));
+        lines.extend(self.questions.rare(RARELY));
         lines
     }
 
@@ -140,8 +150,8 @@ impl Tally {
             text.push('\n');
         }
         text.push_str("answers seen:\n");
-        for (answer, count) in self.answers.iter().enumerate() {
-            let _ = writeln!(text, "  {answer:2} {count:9}");
+        for answer in ANSWERS {
+            let _ = writeln!(text, "  {answer:2} {:9}", self.answers[answer]);
         }
         text.push_str("events taken in histories, by kind 0 to 4:\n");
         for (event, counts) in self.taken.iter().enumerate().skip(1) {
@@ -151,13 +161,12 @@ impl Tally {
             }
             text.push('\n');
         }
-        let _ = writeln!(
-            text,
-            "{} questions of since when, among them:",
-            self.questions
-        );
-        for (count, (name, _)) in self.seen.iter().zip(SEEN) {
-            let _ = writeln!(text, "  {name:34} {count:8}");
+        for counts in [
+            self.moments.text(),
+            self.altered.text(),
+            self.questions.text(),
+        ] {
+            text.push_str(&counts);
         }
         text
     }

@@ -6,9 +6,9 @@ use std::process::{self, Stdio};
 use std::sync::atomic::{AtomicU32, Ordering::Relaxed};
 
 use model::program::{Wrote, USAGE};
-use model::{MOST_EVENTS, UNANSWERED};
+use model::{stuck, MOST_EVENTS, UNANSWERED};
 
-use crate::fixed::{computed, papers_sheet, short_sheet, Fixed, BUILT};
+use crate::fixed::{computed, from_0, papers_sheet, short_sheet, stuck_sheet, Fixed, BUILT};
 use crate::ran::{compared, run, run_on, with_words, Given};
 use crate::random::Random;
 use crate::sheets::{lively_sheet, put, renewed, Sheet};
@@ -22,17 +22,25 @@ pub fn work_cases() -> Vec<Fixed> {
         wrote,
     };
     let refused = |name, sheet, text| case(name, sheet, Wrote::saying(text));
-    let paper = papers_sheet().bytes();
-    let worked = papers_sheet().worked().bytes();
-    let printed = Wrote {
-        printed: worked.clone(),
-        said: String::new(),
+    let good = |name, sheet: Sheet, answered: Vec<u8>| {
+        let printed = Wrote {
+            printed: answered,
+            said: String::new(),
+        };
+        case(name, sheet.bytes(), printed)
     };
-    let mut damaged = paper.clone();
+    let worked = papers_sheet().worked().bytes();
+    let stuck = from_0(&stuck::KINDS, stuck::answered()).bytes();
+    let mut damaged = papers_sheet().bytes();
     put(&mut damaged, 1, 126, 1);
     let (long, renewed) = (vec![1; 3_000_000], renewed(damaged.clone(), 1));
     let mut cases = vec![
-        case("work: the paper's fifteen events", paper, printed),
+        good(
+            "work: the paper's fifteen events",
+            papers_sheet(),
+            worked.clone(),
+        ),
+        good("work: a button sticks and is freed", stuck_sheet(), stuck),
         refused("work: empty input", vec![], "refused 18 0\n"),
         refused("work: 3,000,000 bytes", long, "refused 18 0\n"),
         refused("work: wrong check", damaged, "refused 19 1\n"),
@@ -65,18 +73,35 @@ const PAPER: &[(&[&str], &str)] = &[
     (&["why", "4294967295"], "refused 29 0\n"),
 ];
 
-pub fn why_cases() -> Vec<Fixed> {
-    let case = |name, words, sheet: Vec<u8>, text| Fixed {
+fn why_case(
+    name: &'static str,
+    words: &'static [&'static str],
+    sheet: Vec<u8>,
+    text: &str,
+) -> Fixed {
+    Fixed {
         name,
         words,
         sheet,
         wrote: Wrote::printing(text),
-    };
-    let worked = papers_sheet().worked().bytes();
-    let of_paper = |&(words, text): &(&'static [&'static str], &'static str)| {
-        case("the paper's worked sheet", words, worked.clone(), text)
-    };
-    let mut cases: Vec<Fixed> = PAPER.iter().map(of_paper).collect();
+    }
+}
+
+/// The questions of a list, each with what is printed, about one sheet.
+fn questions_of(
+    name: &'static str,
+    sheet: &Sheet,
+    list: &[(&'static [&'static str], &str)],
+) -> Vec<Fixed> {
+    list.iter()
+        .map(|&(words, text)| why_case(name, words, sheet.bytes(), text))
+        .collect()
+}
+
+pub fn why_cases() -> Vec<Fixed> {
+    let (case, paper) = (why_case, papers_sheet().worked());
+    let worked = paper.bytes();
+    let mut cases = questions_of("the paper's worked sheet", &paper, PAPER);
     let mut damaged = worked.clone();
     put(&mut damaged, 1, 126, 1);
     let handed_in = papers_sheet().bytes();
@@ -99,18 +124,17 @@ pub fn why_cases() -> Vec<Fixed> {
         ),
         case("3,780 events", &["why", "3780"], full, "3778 5 0 0\n"),
     ]);
+    let stuck = stuck_sheet().worked();
+    let name = "a button sticks and is freed";
+    cases.extend(questions_of(name, &stuck, stuck::SINCE));
     cases
 }
 
 /// The paper's case 11: RL is up from the start.
 fn case_11() -> Sheet {
     let entry = |(number, post)| [number, post, UNANSWERED, 0];
-    Sheet {
-        kinds: vec![0, 4, 1],
-        stamp: 0,
-        events: [(5, 0), (8, 0), (3, 1), (6, 1)].map(entry).to_vec(),
-    }
-    .worked()
+    let events = [(5, 0), (8, 0), (3, 1), (6, 1)].map(entry).to_vec();
+    from_0(&[0, 4, 1], events).worked()
 }
 
 /// Announced, lost and restored again and again, and announced twice at the end.

@@ -6,7 +6,7 @@ mod common;
 use common::must_differ;
 use compare::desk::Desk;
 use compare::request::post_words;
-use model::relay::{AN, KPG, L, LEVER, RL, SIGNAL, W241, W314};
+use model::relay::{AN, JAM, KPG, L, LEVER, RL, SIGNAL, W241, W314};
 use model::{Head, Post, Told, COUNT_LIMIT};
 
 /// Mends one rule, and no other.
@@ -62,7 +62,17 @@ fn one_if(post: &Post, mask: u32) -> u32 {
 
 const RELAYS: &[(&str, Mend)] = &[
     ("other bits are zero", |row, _| {
-        each_post(row, |p| p.word &= 0xFF)
+        each_post(row, |p| p.word &= 0x1FF)
+    }),
+    ("bit 9 is zero", |row, _| {
+        each_post(row, |p| p.word &= !(1 << 9))
+    }),
+    ("the jam is down at the origin", |row, _| {
+        each_post(row, |p| {
+            if p.kind == 0 {
+                p.drop(JAM)
+            }
+        })
     }),
     ("An and KPg down at the origin", |row, _| {
         each_post(row, |p| {

@@ -160,6 +160,20 @@ fn a_program_with_wrong_words_is_found() {
 }
 
 #[test]
+fn a_program_with_wrong_jams_is_found() {
+    let desk = format!("{SERVER} --desk \"$@\"");
+    let name = "a button sticks and is freed";
+    must_be_found(&[
+        // 22 after 11, and an announcement lost to a jam that counts as received.
+        (format!("{desk} | sed 's/^7 6 1 22$/7 6 1 11/'"), name),
+        (format!("{desk} | sed 's/^S 0 3 1 2/S 0 3 2 1/'"), name),
+        // An arrival that came to nothing, and a question about 22.
+        (but_for("'why 26'", "DESK | sed s/^25/27/"), name),
+        (but_for("'why 7'", "DESK | sed s/.*/1/"), name),
+    ]);
+}
+
+#[test]
 fn some_inputs_that_fail_would_be_good_sheets() {
     let listed = |bytes: &Vec<u8>| !model::listing(bytes).starts_with("refused");
     assert_eq!(failing_inputs().into_iter().filter(listed).count(), 5);

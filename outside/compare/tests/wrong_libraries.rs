@@ -3,9 +3,10 @@
 
 mod common;
 
-use common::{must_differ, small_run, SMALL};
+use common::{must_differ, refused, right, small_run, Events};
 use compare::cases::{sorts, Wanted};
 use compare::desk::{Desk, InProcess, Model};
+use compare::moments::{ALTERED, MOMENTS};
 use compare::run::compare;
 use compare::seen::SEEN;
 use compare::sheets::{blocks, get, put, renew};
@@ -18,18 +19,26 @@ fn the_model_passes_and_all_is_seen() {
 }
 
 #[test]
-fn questions_that_are_not_asked_are_missed() {
+fn what_does_not_come_up_is_missed() {
     let wanted = Wanted {
-        questions: 0,
+        events: 0,
+        rows: 0,
         sheets: 0,
-        ..SMALL
+        questions: 0,
     };
     let run = compare(&sorts(), 1, wanted, &mut InProcess(Model));
     let missing = run.map_or(Vec::new(), |tally| tally.missing(&sorts()));
-    let questions = missing
-        .iter()
-        .filter(|line| line.starts_with("questions, "));
-    assert_eq!(questions.count(), SEEN.len());
+    let lines = |front: &str| {
+        missing
+            .iter()
+            .filter(|line| line.starts_with(front))
+            .count()
+    };
+    assert_eq!(lines("questions of since when, "), SEEN.len());
+    assert_eq!(lines("events in histories, "), MOMENTS.len());
+    assert_eq!(lines("altered rows, "), ALTERED.len());
+    assert_eq!(lines("answer "), 25);
+    assert_eq!(lines("event "), 47);
 }
 
 /// The gate's whole run in this process: cargo test --release -- --ignored.
@@ -47,25 +56,6 @@ fn the_model_passes_a_whole_run() {
     let tally = run.unwrap_or_else(|d| panic!("{}: {}", d.name, d.text));
     println!("{}{:?}", tally.text(&sorts()), began.elapsed());
     assert_eq!(tally.missing(&sorts()), Vec::<String>::new());
-}
-
-type Played<'a> = (&'a mut [Post], Head, [u32; 3]);
-
-/// A desk whose events are the model's, with a word put in.
-struct Events(fn(Played) -> Told);
-
-impl Desk for Events {
-    fn event(&mut self, row: &mut [Post], head: Head, step: [u32; 3]) -> Told {
-        (self.0)((row, head, step))
-    }
-}
-
-fn right((row, head, [number, place, stamp]): Played) -> Told {
-    model::event(row, head, number, place, stamp)
-}
-
-fn refused(answer: u32, head: Head) -> Told {
-    Told { answer, head }
 }
 
 #[test]

@@ -1,6 +1,20 @@
 //! The calls of `include/desk.h` over slices: what C must promise of its pointers holds of every slice, so none of
 //! these functions asks anything of its caller. What each promises stands in the header.
 
+/// The relays, as bits of the word of a post. `JAM` is up while the release button of the post is stuck; it is always
+/// down at the origin, which has no such button.
+pub mod relay {
+    pub const AN: u32 = 1;
+    pub const KPG: u32 = 2;
+    pub const L: u32 = 4;
+    pub const RL: u32 = 8;
+    pub const LEVER: u32 = 16;
+    pub const SIGNAL: u32 = 32;
+    pub const W314: u32 = 64;
+    pub const W241: u32 = 128;
+    pub const JAM: u32 = 256;
+}
+
 /// The record of a post, laid out as `struct desk_post`.
 #[repr(C)]
 #[derive(Clone, Copy, Debug, Default, PartialEq, Eq)]
@@ -26,7 +40,7 @@ pub struct Head {
     pub last: u32,
 }
 
-/// An answer and the head after it.
+/// An answer (of a start 0 or 1; of an event 0 to 17, 22 or 23) and the head after it.
 #[repr(C)]
 #[derive(Clone, Copy, Debug, Default, PartialEq, Eq)]
 pub struct Told {
@@ -86,7 +100,7 @@ pub struct Since {
     pub position: u32,
 }
 
-/// An event of a sheet: number, post or section, answer, stamp.
+/// An event of a sheet: number, post (8, 9, 10: section), answer, stamp.
 pub type Entry = [u32; 4];
 
 mod c {
@@ -157,7 +171,7 @@ pub fn start(row: &mut [Post], kinds: &[u32], stamp: u32) -> Told {
     }
 }
 
-/// One event at a post, or for 8, 9 and 10 at a section.
+/// One event (they are 1 to 12) at a post, or for 8, 9 and 10 at a section; 11: the release button jams, 12: it is freed.
 pub fn event(row: &mut [Post], head: Head, number: u32, place: u32, stamp: u32) -> Told {
     // SAFETY: see above.
     unsafe { c::desk_event(row.as_mut_ptr(), row.len(), head, number, place, stamp) }

@@ -1,6 +1,8 @@
 //! Each call once through the wrapper: that pointers, counts and returned structs meet the C calling convention.
+use desk::relay::{AN, JAM, RL, W241, W314};
 use desk::{event, read, start, test, valid, why, work, write, Head, Post, Since, Verdict};
 use model::paper::{answered, unanswered, KINDS};
+use model::stuck;
 
 fn is_last(row: &[Post]) -> bool {
     let (up, down) = (row[0], row[1]);
@@ -44,6 +46,37 @@ fn the_listing_as_a_sheet() {
     assert_eq!(kinds, [0, 1, 9]);
     assert_eq!(events[..15], answered());
     assert_eq!(events[15], [9; 4]);
+}
+
+#[test]
+fn a_jam_event_by_event() {
+    let mut row = [Post::default(); 3];
+    let mut told = start(&mut row, &stuck::KINDS, 0);
+    for [number, place, answer, stamp] in stuck::answered() {
+        told = event(&mut row, told.head, number, place, stamp);
+        assert_eq!(told.answer, answer, "event {number} at {place}");
+    }
+    assert_eq!((row[0].x, row[1].r), (2, 1));
+    assert_eq!(row[0].word & (RL | W314 | W241), 0);
+    assert_eq!(row[1].word & (AN | JAM), JAM);
+    assert!(valid(&row, told.head));
+    row[0].word |= JAM;
+    assert!(!valid(&row, told.head));
+}
+
+#[test]
+fn a_jam_as_a_sheet() {
+    let (mut sheet, mut answered, mut out) = ([0; 1024], [0; 1024], [0; 1024]);
+    assert_eq!(write(&stuck::KINDS, 0, &stuck::unanswered(), &mut sheet), 0);
+    assert_eq!(
+        write(&stuck::KINDS, 0, &stuck::answered(), &mut answered),
+        0
+    );
+    let worked = work(&sheet, &mut out);
+    assert_eq!((worked.number, out), (0, answered));
+    assert_eq!(worked.row.posts()[1].word & JAM, JAM);
+    assert_eq!(why(&out, 21), since(0, 0, 20));
+    assert_eq!(why(&out, 7), since(29, 0, 0));
 }
 
 #[test]

@@ -1,10 +1,11 @@
-//! 01, Events, and the order of refusals under Numbers returned.
+//! 01, Events, and the order of refusals under Numbers returned; and 02, item 2, the
+//! stuck release button.
 
-use crate::line::relay::{AN, KPG, L, LEVER, RL, SIGNAL, W241, W314};
+use crate::line::relay::{AN, JAM, KPG, L, LEVER, RL, SIGNAL, W241, W314};
 use crate::line::{kind, valid, Head, Post, Told, COUNT_LIMIT};
 use crate::number::*;
 
-/// The ten events by their numbers.
+/// The events by their numbers: ten of 01, and two of 02, item 2.
 const REVERSE: u32 = 1;
 const TO_NORMAL: u32 = 2;
 const PASSAGE_PEDAL: u32 = 3;
@@ -15,6 +16,8 @@ const GARAGE_RELEASE: u32 = 7;
 const ARRIVAL: u32 = 8;
 const LOSS: u32 = 9;
 const RESTORATION: u32 = 10;
+const BUTTON_JAMS: u32 = 11;
+const BUTTON_FREED: u32 = 12;
 
 /// One event. Refused: row and head as they were. Taken: 1 more event taken, and
 /// the last stamp set.
@@ -42,9 +45,10 @@ pub fn event_on_valid(row: &mut [Post], head: Head, number: u32, place: u32, sta
     Told { answer, head }
 }
 
-/// "Order for an event: 1, 3, 2, 5, 4, 6, then the event's own list." From 3 on.
+/// "Order for an event: 1, 3, 2, 5, 4, 6, then the event's own list." From 3 on; 22 and
+/// 23 are given "both right after 6".
 fn refusal(row: &[Post], head: Head, number: u32, place: u32, stamp: u32) -> u32 {
-    if !(REVERSE..=RESTORATION).contains(&number) {
+    if !(REVERSE..=BUTTON_FREED).contains(&number) {
         return NO_SUCH_EVENT;
     }
     if !place_exists(row.len(), number, place) {
@@ -60,13 +64,16 @@ fn refusal(row: &[Post], head: Head, number: u32, place: u32, stamp: u32) -> u32
     if lacks_device(number, row[place].kind) {
         return NO_DEVICE;
     }
-    own_refusal(row, number, place)
+    match jam_refusal(&row[place], number) {
+        TAKEN => own_refusal(row, number, place),
+        refused => refused,
+    }
 }
 
 /// For 8, 9 and 10 the place is a section, 0 to N-2; else a post, 0 to N-1.
 fn place_exists(posts: usize, number: u32, place: u32) -> bool {
-    let places = if number >= ARRIVAL { posts - 1 } else { posts };
-    (place as usize) < places
+    let is_section = (ARRIVAL..=RESTORATION).contains(&number);
+    (place as usize) < posts - usize::from(is_section)
 }
 
 /// "A stamp is behind when its difference from the last, taken round 2^32 and
@@ -76,7 +83,7 @@ fn behind(stamp: u32, last: u32) -> bool {
 }
 
 /// "6 is given for 3 at kind 0; 4 at kinds 3 and 4; 5 at kind 1; 6 at kind 0; 7 at
-/// kinds 0, 1 and 4."
+/// kinds 0, 1 and 4." 11 and 12 "get 6 at the origin" (02, item 2).
 fn lacks_device(number: u32, post_kind: u32) -> bool {
     match number {
         PASSAGE_PEDAL => post_kind == kind::ORIGIN,
@@ -84,13 +91,24 @@ fn lacks_device(number: u32, post_kind: u32) -> bool {
             post_kind == kind::STATION_AT_ANNOUNCEMENT || post_kind == kind::INTERMEDIATE
         }
         ANNOUNCE => post_kind == kind::TERMINUS,
-        RELEASE => post_kind == kind::ORIGIN,
+        RELEASE | BUTTON_JAMS | BUTTON_FREED => post_kind == kind::ORIGIN,
         GARAGE_RELEASE => {
             post_kind == kind::ORIGIN
                 || post_kind == kind::TERMINUS
                 || post_kind == kind::INTERMEDIATE
         }
         _ => false,
+    }
+}
+
+/// 02, item 2: "22 for events 6, 7 and 11 at a jammed post, 23 for 12 at a free one";
+/// 0 when it is neither.
+fn jam_refusal(post: &Post, number: u32) -> u32 {
+    let jammed = post.is_up(JAM);
+    match number {
+        RELEASE | GARAGE_RELEASE | BUTTON_JAMS => first([(jammed, JAMMED)]),
+        BUTTON_FREED => first([(!jammed, NOT_JAMMED)]),
+        _ => TAKEN,
     }
 }
 
@@ -175,6 +193,8 @@ fn change(row: &mut [Post], number: u32, place: usize) {
             row[place].raise(L | RL);
             row[place].g += 1;
         }
+        BUTTON_JAMS => row[place].raise(JAM),
+        BUTTON_FREED => row[place].drop(JAM),
         _ => {}
     }
 }
@@ -214,9 +234,12 @@ fn release(row: &mut [Post], place: usize) {
 }
 
 /// 8: "W314: it drops, An downstream rises, r grows by 1. W241: it drops, L and RL
-/// rise, v grows by 1."
+/// rise, v grows by 1." But (02, item 2) "an announcement arriving at a jammed post
+/// clears from the circuit and is counted in x; An stays down": so it is lost.
 fn arrive(row: &mut [Post], section: usize) {
-    if row[section].is_up(W314) {
+    if row[section].is_up(W314) && row[section + 1].is_up(JAM) {
+        lose(&mut row[section]);
+    } else if row[section].is_up(W314) {
         row[section].drop(W314);
         row[section + 1].raise(AN);
         row[section + 1].r += 1;

@@ -10,6 +10,7 @@ mod listing;
 pub mod paper;
 pub mod program;
 mod sheet;
+pub mod stuck;
 mod why;
 mod working;
 
@@ -23,7 +24,7 @@ pub use sheet::{
 pub use why::{why, Since};
 pub use working::{work, Worked};
 
-/// 01, Numbers returned, and 29 by 02, item 1.
+/// 01, Numbers returned; 29 by 02, item 1; 22 and 23 by 02, item 2.
 pub mod number {
     pub const TAKEN: u32 = 0;
     pub const NOT_VALID: u32 = 1;
@@ -47,5 +48,7 @@ pub mod number {
     pub const CHECK_WRONG: u32 = 19;
     pub const CONTENTS: u32 = 20;
     pub const TOO_SHORT: u32 = 21;
+    pub const JAMMED: u32 = 22;
+    pub const NOT_JAMMED: u32 = 23;
     pub const NOTHING_TO_TELL: u32 = 29;
 }

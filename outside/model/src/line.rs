@@ -1,4 +1,5 @@
-//! 01, What the desk is; One post's relays; A line that may be used.
+//! 01, What the desk is; One post's relays; A line that may be used. The jam, a relay
+//! more, is of 02, item 2.
 
 use crate::number::{NOT_VALID, TAKEN};
 
@@ -21,9 +22,11 @@ pub mod relay {
     pub const SIGNAL: u32 = 1 << 5;
     pub const W314: u32 = 1 << 6;
     pub const W241: u32 = 1 << 7;
+    /// 02, item 2: "the jam is bit 8 of the relay word".
+    pub const JAM: u32 = 1 << 8;
 }
 
-use relay::{AN, KPG, L, LEVER, RL, SIGNAL, W241, W314};
+use relay::{AN, JAM, KPG, L, LEVER, RL, SIGNAL, W241, W314};
 
 /// 01: the events taken are at most this many.
 pub const COUNT_LIMIT: u32 = 1_000_000;
@@ -155,11 +158,12 @@ fn row_kinds_right(row: &[Post]) -> bool {
 }
 
 /// "All other bits are zero. An and KPg stay down at the origin; L, RL and both
-/// W bits stay down at the terminus."
+/// W bits stay down at the terminus." The jam is "down on a fresh line and at the
+/// origin" (02, item 2).
 fn stays_down(post: &Post) -> bool {
-    let others = !(AN | KPG | L | RL | LEVER | SIGNAL | W314 | W241);
+    let others = !(AN | KPG | L | RL | LEVER | SIGNAL | W314 | W241 | JAM);
     let here = match post.kind {
-        kind::ORIGIN => AN | KPG,
+        kind::ORIGIN => AN | KPG | JAM,
         kind::TERMINUS => L | RL | W314 | W241,
         _ => 0,
     };

@@ -27,6 +27,16 @@ S 0 1 1 0 1 1 1 0 1 0
 
 /// The events with the answers that the listing gives them.
 pub fn answered() -> Vec<Entry> {
+    events_of(LISTING)
+}
+
+/// The events as they are handed in.
+pub fn unanswered() -> Vec<Entry> {
+    handed_in(answered())
+}
+
+/// The events of a listing, event k stamped 1000k.
+pub(crate) fn events_of(listing: &str) -> Vec<Entry> {
     let event_line = |line: &str| {
         let numbers: Vec<u32> = line.split(' ').filter_map(|w| w.parse().ok()).collect();
         match numbers[..] {
@@ -34,11 +44,11 @@ pub fn answered() -> Vec<Entry> {
             _ => None,
         }
     };
-    LISTING.lines().filter_map(event_line).collect()
+    listing.lines().filter_map(event_line).collect()
 }
 
-/// The events as they are handed in.
-pub fn unanswered() -> Vec<Entry> {
-    let handed_in = |[number, post, _, stamp]: Entry| [number, post, UNANSWERED, stamp];
-    answered().into_iter().map(handed_in).collect()
+/// The same events, not yet answered.
+pub(crate) fn handed_in(answered: Vec<Entry>) -> Vec<Entry> {
+    let unanswered = |[number, post, _, stamp]: Entry| [number, post, UNANSWERED, stamp];
+    answered.into_iter().map(unanswered).collect()
 }

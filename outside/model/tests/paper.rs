@@ -2,16 +2,9 @@
 
 mod common;
 
-use common::{fifteen, sheet};
+use common::{fifteen, fresh, sheet};
 use model::number::*;
 use model::*;
-
-fn fresh(kinds: &[u32], stamp: u32) -> (Vec<Post>, Head) {
-    let mut row = vec![Post::default(); kinds.len()];
-    let told = start(&mut row, kinds, stamp);
-    assert_eq!(told.answer, TAKEN);
-    (row, told.head)
-}
 
 fn word(bytes: &[u8], at: usize) -> u32 {
     u32::from_le_bytes(bytes[4 * at..4 * at + 4].try_into().unwrap())
@@ -175,8 +168,8 @@ fn the_order_of_refusals() {
         taken: COUNT_LIMIT + 1,
         last: 10,
     };
-    assert_eq!(event(&mut row, over, 11, 9, 0).answer, NOT_VALID);
-    assert_eq!(event(&mut row, full, 11, 9, 0).answer, NO_SUCH_EVENT);
+    assert_eq!(event(&mut row, over, 13, 9, 0).answer, NOT_VALID);
+    assert_eq!(event(&mut row, full, 13, 9, 0).answer, NO_SUCH_EVENT);
     assert_eq!(event(&mut row, full, 5, 9, 0).answer, NO_SUCH_PLACE);
     assert_eq!(event(&mut row, full, 5, 1, 0).answer, FULL);
     let head = Head { taken: 0, last: 10 };
@@ -247,7 +240,7 @@ fn every_event_keeps_a_valid_line_valid() {
         for _ in 0..7 {
             let mut next = Vec::new();
             for (row, head) in &edge {
-                for (number, place) in (1..=10).flat_map(|n| (0..3).map(move |p| (n, p))) {
+                for (number, place) in (1..=12).flat_map(|n| (0..3).map(move |p| (n, p))) {
                     let mut after = row.clone();
                     let told = event(&mut after, *head, number, place, 0);
                     assert!(valid(&after, told.head));

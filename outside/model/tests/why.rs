@@ -2,7 +2,7 @@
 
 mod common;
 
-use common::{fifteen, sheet};
+use common::{fifteen, sheet, work_whole};
 use model::program::{asked, wrote, Asked, Wrote, USAGE};
 use model::*;
 
@@ -11,12 +11,6 @@ fn worked(kinds: &[u32], events: &[(u32, u32)]) -> Vec<u8> {
     let entry = |&(number, place): &(u32, u32)| [number, place, UNANSWERED, 0];
     let events: Vec<Entry> = events.iter().map(entry).collect();
     work_whole(&sheet(kinds, 0, &events))
-}
-
-fn work_whole(sheet: &[u8]) -> Vec<u8> {
-    let mut out = vec![0; sheet.len()];
-    assert_eq!(work(sheet, &mut out).number, 0);
-    out
 }
 
 fn refused(number: u32, block: u32) -> Since {

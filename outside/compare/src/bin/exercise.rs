@@ -4,8 +4,9 @@
 use std::io::{self, Write};
 use std::process::ExitCode;
 
+use compare::histories::ordinary_event;
 use compare::random::Random;
-use compare::sheets::lively_sheet;
+use compare::sheets::sheet_by;
 
 fn main() -> ExitCode {
     let numbers: Vec<usize> = std::env::args()
@@ -17,7 +18,7 @@ fn main() -> ExitCode {
         return ExitCode::from(2);
     };
     let mut random = Random::of_case(0, posts as u64, events as u64);
-    let sheet = lively_sheet(&mut random, posts, events).bytes();
+    let sheet = sheet_by(&mut random, posts, events, ordinary_event).bytes();
     match io::stdout().write_all(&sheet) {
         Ok(()) => ExitCode::SUCCESS,
         Err(_) => ExitCode::FAILURE,
