@@ -84,7 +84,7 @@ free-more i n h c o (v ∷ later) y rest z d = let g : h ≡ later ++ (y ∷ res
 befalls-free : (i : ℕ) {w v : State} → Befalls w v → Sound w → Free i (w .history) → Free i (v .history)
 unfolding step
 befalls-free i {w} (given-event e) r o = free-more i _ (w .history) (event-free i e w r) o
-befalls-free i {w} (refused-outside e n f) r o = free-more i _ (w .history) (λ d. absurd (f (released-taken i e n d))) o
+befalls-free i {w} (refused-outside e n f) r o = free-more i _ (w .history) (λ d. absurd (omega (arith, released-taken i e n d))) o
 befalls-free i (moved-elsewhere s f g) r o = o
 
 -- ---- an announcement recorded
