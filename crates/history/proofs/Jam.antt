@@ -3,9 +3,9 @@
 -- Assumes nothing.
 use Prim.Native.Nat.{ℕ}
 use mathlib.Core.Path.{_≡_, refl}
-use mathlib.Core.Bool.{true}
+use mathlib.Core.Bool.{Bool, true, _||_}
 use mathlib.Core.List.{List}
-use borrow.Author.Tests.{ne-eqb}
+use borrow.Author.Tests.{eqb-true}
 use lib.Dec.{eqb}
 use Rattle.relay.specs.Examples.{Event}
 use Rattle.relay.specs.Kinds.{terminus}
@@ -14,13 +14,12 @@ use Rattle.relay.specs.Posts.{at, freshWord}
 use Rattle.relay.specs.Relays.{jam, up, raise}
 use Rattle.relay.specs.declared.Post.{Post}
 use Rattle.relay.proofs.Cases.{button-jams, button-freed}
-use Rattle.relay.proofs.Touched.{touched, here-stays, other-stays}
-use Rattle.relay.proofs.Truth.{equal-or-not, split, pick-same}
+use Rattle.relay.proofs.Touched.{touched}
+use Rattle.relay.proofs.Truth.{nor-facts, or-facts, split, pick-same}
 use Rattle.relay.proofs.Word.{relays}
 use Rattle.history.specs.History.{did, isJammed}
 use Rattle.history.specs.Run.{run, begun, at-first}
-use Rattle.history.proofs.Agrees.{and-false}
-use Rattle.history.proofs.Followed.{Moves, Followed, reached-says}
+use Rattle.history.proofs.Followed.{Moves, not-did, Followed, reached-says}
 use Rattle.history.proofs.Reached.{run-reached}
 
 -- event n makes of the jam of the post named what its entry says
@@ -36,28 +35,20 @@ module _ (i t m : ℕ) where
   unfolding did
   by-freeing j p o b f r (button-freed x y) = simp (relays, f)
 
-  by-any : (n : ℕ) → By n
-  unfolding did touched
-  by-any n j p o b f r T =
-      equal-or-not n 11
-      (λ x. rw x (by-jamming j p o b f r (rw x at T)))
-      (λ x.
-      equal-or-not n 12
-      (λ y. rw y (by-freeing j p o b f r (rw y at T)))
-      (λ y.
-      let eleven = ne-eqb n 11 x in
-      let twelve = ne-eqb n 12 y in
-      simp (eleven, twelve) (here-stays T jam refl (simp (eleven, twelve, pick-same)))))
-
 -- the jam is one that the history says
-pub jam-followed : Followed jam (did 11) (did 12)
-unfolding did freshWord up raise
+abbrev moves : ℕ → Bool
+moves n = eqb n 11 || eqb n 12
+
+pub jam-followed : Followed jam (did 11) (did 12) moves
+unfolding did touched freshWord up raise
 jam-followed =
     record {
-      here = by-any;
-      other = λ T. other-stays T jam refl;
-      away = λ n i m t b f. simp (f, and-false);
-      refused = λ i e n b f. simp f;
+      here = λ i t m n.
+          or-facts (eqb n 11) (eqb n 12) (λ e. rw (eqb-true n 11 e) (by-jamming i t m)) (λ e. rw (eqb-true n 12 e) (by-freeing i t m));
+      still = λ n e. let f = simp nor-facts at e in simp (f .0, f .1, pick-same);
+      only = λ i x e. (not-did 11 moves i x refl e, not-did 12 moves i x refl e);
+      relay = refl;
+      own = refl;
       fresh = λ k. split (eqb k terminus) (λ e. rw e) (λ e. rw e);
       blank = refl;
     }

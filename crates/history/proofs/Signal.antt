@@ -2,9 +2,9 @@
 -- It is followed through the history (proofs/Followed.antt): only 1 raises the signal of the post named, and 2 and 4 close it.
 use Prim.Native.Nat.{ℕ}
 use mathlib.Core.Path.{_≡_, refl, sym, _∙_}
-use mathlib.Core.Bool.{true, false, false≢true}
+use mathlib.Core.Bool.{Bool, true, false, _||_, false≢true}
 use mathlib.Core.List.{List}
-use borrow.Author.Tests.{ne-eqb}
+use borrow.Author.Tests.{eqb-true}
 use lib.Dec.{eqb}
 use Rattle.relay.specs.Examples.{Event}
 use Rattle.relay.specs.Kinds.{terminus}
@@ -13,13 +13,12 @@ use Rattle.relay.specs.Posts.{at, freshWord}
 use Rattle.relay.specs.Relays.{signal, up, raise}
 use Rattle.relay.specs.declared.Post.{Post}
 use Rattle.relay.proofs.Cases.{reverse, normalise, strike-block, strike-close, strike-idle}
-use Rattle.relay.proofs.Touched.{touched, here-stays, other-stays}
-use Rattle.relay.proofs.Truth.{equal-or-not, split, pick-same}
+use Rattle.relay.proofs.Touched.{touched}
+use Rattle.relay.proofs.Truth.{nor-facts, or-facts, split, pick-same}
 use Rattle.relay.proofs.Word.{relays}
 use Rattle.history.specs.History.{did, closes, isOpen}
 use Rattle.history.specs.Run.{State, run, begun, Reached, at-first}
-use Rattle.history.proofs.Agrees.{and-false}
-use Rattle.history.proofs.Followed.{Moves, Followed, reached-says}
+use Rattle.history.proofs.Followed.{Moves, not-did, Followed, reached-says}
 use Rattle.history.proofs.Reached.{run-reached}
 
 -- event n makes of the signal of the post named what its entry says
@@ -42,32 +41,22 @@ module _ (i t m : ℕ) where
   by-striking j p o b f r (strike-idle x y) =
       simp f (split (up signal (p .word)) (λ c. absurd (false≢true (sym y ∙ r .open-reversed c))) (λ c. c))
 
-  by-any : (n : ℕ) → By n
-  unfolding closes did touched
-  by-any n j p o b f r T =
-      equal-or-not n 1
-      (λ x. rw x (by-reversing j p o b f r (rw x at T)))
-      (λ x.
-      equal-or-not n 2
-      (λ y. rw y (by-normalising j p o b f r (rw y at T)))
-      (λ y.
-      equal-or-not n 4
-      (λ z. rw z (by-striking j p o b f r (rw z at T)))
-      (λ z.
-      let one = ne-eqb n 1 x in
-      let two = ne-eqb n 2 y in
-      let four = ne-eqb n 4 z in
-      simp (one, two, four) (here-stays T signal refl (simp (one, two, four, pick-same))))))
-
 -- the signal is one that the history says
-signal-followed : Followed signal (did 1) closes
-unfolding closes did freshWord up raise
+abbrev moves : ℕ → Bool
+moves n = eqb n 1 || (eqb n 2 || eqb n 4)
+
+signal-followed : Followed signal (did 1) closes moves
+unfolding closes did touched freshWord up raise
 signal-followed =
     record {
-      here = by-any;
-      other = λ T. other-stays T signal refl;
-      away = λ n i m t b f. simp (f, and-false);
-      refused = λ i e n b f. simp f;
+      here = λ i t m n.
+          or-facts (eqb n 1) (eqb n 2 || eqb n 4) (λ e. rw (eqb-true n 1 e) (by-reversing i t m))
+          (or-facts (eqb n 2) (eqb n 4) (λ e. rw (eqb-true n 2 e) (by-normalising i t m)) (λ e. rw (eqb-true n 4 e) (by-striking i t m)));
+      still = λ n e. let f = simp nor-facts at e in simp (f .0, f .1 .0, f .1 .1, pick-same);
+      only = λ i x e.
+          (not-did 1 moves i x refl e, nor-facts (did 2 i x) (did 4 i x) .1 (not-did 2 moves i x refl e, not-did 4 moves i x refl e));
+      relay = refl;
+      own = refl;
       fresh = λ k. split (eqb k terminus) (λ e. rw e) (λ e. rw e);
       blank = refl;
     }

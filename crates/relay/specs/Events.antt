@@ -108,11 +108,11 @@ restoreRefusal w z =
 unfoldable pub restored : Post → Post
 restored p = more-g (wordTo (raise RL (raise L (p .word))) p)
 
--- 11. The button jams: 02, item 2
+-- 02, item 2, 'event 11 (the button jams)': the jam rises, and nothing else moves
 unfoldable pub jammed : Post → Post
 jammed p = wordTo (raise jam (p .word)) p
 
--- 12. It is freed
+-- 'and event 12 (it is freed)': it drops
 unfoldable pub freed : Post → Post
 freed p = wordTo (lower jam (p .word)) p
 

@@ -218,7 +218,8 @@ refusals =
     -- '3 at kind 0; 4 at kinds 3 and 4; 5 at kind 1; 6 at kind 0; 7 at kinds 0, 1 and 4', 11 and 12 'at the origin'
     ++ (atOnce 6 3 0 ∷ atOnce 6 4 2 ∷ atOnce 6 4 3 ∷ atOnce 6 5 4 ∷ atOnce 6 6 0 ∷ atOnce 6 7 0 ∷ atOnce 6 7 4 ∷ atOnce 6 7 3 ∷ atOnce 6 11 0 ∷ atOnce 6 12 0 ∷ [])
     -- '22 for events 6, 7 and 11 at a jammed post', with An down or up, '23 for 12 at a free one'; 6 goes before them
-    ++ each (6 ∷ 11 ∷ []) (λ n. row (ev 11 1 ∷ []) (ev n 1) (refused 22))
+    ++ each downstream (λ i. row (ev 11 i ∷ []) (ev 6 i) (refused 22))
+    ++ each (1 ∷ 2 ∷ []) (λ i. row (ev 11 i ∷ []) (ev 7 i) (refused 22))
     ++ each downstream (λ i. row (announcedOn i ++ (ev 11 i ∷ [])) (ev 6 i) (refused 22))
     ++ each (1 ∷ 2 ∷ []) (λ i. row (passed i ++ (ev 11 i ∷ [])) (ev 7 i) (refused 22))
     ++ each downstream (λ i. row (ev 11 i ∷ []) (ev 11 i) (refused 22))
