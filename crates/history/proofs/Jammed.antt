@@ -16,9 +16,9 @@ use Rattle.relay.specs.declared.Pair.{Pair}
 use Rattle.relay.specs.declared.Post.{Post}
 use Rattle.relay.proofs.Accepted.{event-cases}
 use Rattle.relay.proofs.Cases.{Taken, release, garage, accepted-case}
-use Rattle.relay.proofs.Truth.{and-facts, nor-facts, or-facts, split}
+use Rattle.relay.proofs.Truth.{and-facts, not-facts, nor-facts, or-facts, split}
 use Rattle.history.specs.Demand.{Unjammed}
-use Rattle.history.specs.History.{Entry, entry, did, isUp, isJammed, releases, announced, receives, jamLoses}
+use Rattle.history.specs.History.{Entry, entry, did, isUp, isJammed, announcement, releases, announced, receives, jamLoses}
 use Rattle.history.specs.Run.{State, answer, step, run, begun, Befalls, given-event, refused-outside, moved-elsewhere, Reached, at-first, further}
 use Rattle.history.proofs.Agrees.{and-false, recorded}
 use Rattle.history.proofs.Reached.{run-reached}
@@ -92,6 +92,13 @@ befalls-free i (moved-elsewhere s f g) r o = o
 one-number : (n m i j : ℕ) (x : Entry) → eqb n m ≡ false → did n i x ≡ true → did m j x ≡ false
 unfolding did
 one-number n m i j x f d = let g = did-facts n i x d in simp (g .1 .0, f, and-false)
+
+-- none is received between the jam at x and the freeing, in any history: y receives one after m, so the button was freed within m
+pub not-received : (s : ℕ) (y : Entry) (m : List Entry) (x : Entry) (b : List Entry)
+    → receives announcement s y (m ++ (x ∷ b)) ≡ true → did 11 (s + 1) x ≡ true
+    → Unjammed (s + 1) m
+unfolding receives jamLoses
+not-received s y m x b e d = freed-since (s + 1) m x b d (simp (and-facts, not-facts) at e .1 .0)
 
 -- An is up after m and was down when the button jammed at x: it was freed within m
 recorded-since : (s : ℕ) (m : List Entry) (x : Entry) (b : List Entry) → did 11 (s + 1) x ≡ true → announced s b ≡ false
