@@ -155,6 +155,16 @@ alters i rs ds gs = outcome 0 (altered i rs ds gs ∷ [])
 abbrev pub sends : ℕ → List ℕ → Outcome
 sends i gs = outcome 0 (altered (i - 1) (W241 ∷ []) [] [] ∷ altered i [] (An ∷ KPg ∷ []) gs ∷ [])
 
+-- in section i: an announcement received, a release received, an announcement lost
+abbrev pub announcementIn : ℕ → Outcome
+announcementIn i = outcome 0 (altered i [] (W314 ∷ []) [] ∷ altered (i + 1) (An ∷ []) [] (announcementsReceived ∷ []) ∷ [])
+
+abbrev pub releaseIn : ℕ → Outcome
+releaseIn i = alters i (L ∷ RL ∷ []) (W241 ∷ []) (releasesReceived ∷ [])
+
+abbrev pub announcementGone : ℕ → Outcome
+announcementGone i = alters i [] (W314 ∷ []) (announcementsLost ∷ [])
+
 unfoldable pub taken : List Row
 taken =
     -- 1. 'signal opens'
@@ -176,10 +186,10 @@ taken =
     -- 7. 'As 6, and c grows by 1.'
     ++ each (1 ∷ 2 ∷ []) (λ i. row (passed i) (ev 7 i) (sends i (releasesSent ∷ garageReleases ∷ [])))
     -- 8. 'W314: it drops, An downstream rises, r grows by 1. W241: it drops, L and RL rise, v grows by 1.'
-    ++ each upstream (λ i. row (ev 5 i ∷ []) (ev 8 i) (outcome 0 (altered i [] (W314 ∷ []) [] ∷ altered (i + 1) (An ∷ []) [] (announcementsReceived ∷ []) ∷ [])))
-    ++ each upstream (λ i. row (released (i + 1)) (ev 8 i) (alters i (L ∷ RL ∷ []) (W241 ∷ []) (releasesReceived ∷ [])))
+    ++ each upstream (λ i. row (ev 5 i ∷ []) (ev 8 i) (announcementIn i))
+    ++ each upstream (λ i. row (released (i + 1)) (ev 8 i) (releaseIn i))
     -- 9. 'The signal under way drops; x or y grows by 1.'
-    ++ each upstream (λ i. row (ev 5 i ∷ []) (ev 9 i) (alters i [] (W314 ∷ []) (announcementsLost ∷ [])))
+    ++ each upstream (λ i. row (ev 5 i ∷ []) (ev 9 i) (announcementGone i))
     ++ each upstream (λ i. row (released (i + 1)) (ev 9 i) (alters i [] (W241 ∷ []) (releasesLost ∷ [])))
     -- 10. 'L and RL rise, g grows by 1.'
     ++ each upstream (λ i. row (ev 5 i ∷ ev 9 i ∷ []) (ev 10 i) (alters i (L ∷ RL ∷ []) [] (restorations ∷ [])))
@@ -189,12 +199,12 @@ taken =
     ++ each downstream (λ i. row (passed i) (ev 11 i) (alters i (jam ∷ []) [] []))
     ++ each downstream (λ i. row (ev 11 i ∷ []) (ev 12 i) (alters i [] (jam ∷ []) []))
     -- 8. 'An announcement arriving at a jammed post clears from the circuit and is counted in x; An stays down.'
-    ++ each upstream (λ i. row (ev 11 (i + 1) ∷ ev 5 i ∷ []) (ev 8 i) (alters i [] (W314 ∷ []) (announcementsLost ∷ [])))
+    ++ each upstream (λ i. row (ev 11 (i + 1) ∷ ev 5 i ∷ []) (ev 8 i) (announcementGone i))
     -- a release that arrives is received, the button jammed or not
-    ++ each upstream (λ i. row (released (i + 1) ++ (ev 11 (i + 1) ∷ [])) (ev 8 i) (alters i (L ∷ RL ∷ []) (W241 ∷ []) (releasesReceived ∷ [])))
+    ++ each upstream (λ i. row (released (i + 1) ++ (ev 11 (i + 1) ∷ [])) (ev 8 i) (releaseIn i))
     -- freed, the post releases what it had recorded, and records what arrives
     ++ each downstream (λ i. row (announcedOn i ++ (ev 11 i ∷ ev 12 i ∷ [])) (ev 6 i) (sends i (releasesSent ∷ [])))
-    ++ each upstream (λ i. row (ev 11 (i + 1) ∷ ev 12 (i + 1) ∷ ev 5 i ∷ []) (ev 8 i) (outcome 0 (altered i [] (W314 ∷ []) [] ∷ altered (i + 1) (An ∷ []) [] (announcementsReceived ∷ []) ∷ [])))
+    ++ each upstream (λ i. row (ev 11 (i + 1) ∷ ev 12 (i + 1) ∷ ev 5 i ∷ []) (ev 8 i) (announcementIn i))
 
 -- ---- every number 2 to 17, 22 and 23 given
 abbrev pub refused : ℕ → Outcome

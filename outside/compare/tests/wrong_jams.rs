@@ -30,6 +30,15 @@ fn changed(
     told
 }
 
+/// The same change, after every event of this number that is taken.
+fn changed_by(number: u32, played: Played, change: fn(&mut Post, &mut Post)) -> Told {
+    if played.2[0] == number {
+        changed(played, |_, _, _| true, change)
+    } else {
+        right(played)
+    }
+}
+
 /// An announcement arrives at a jammed post.
 fn lost(up: &Post, down: &Post, number: u32) -> bool {
     number == 8 && up.is_up(W314) && down.is_up(JAM)
@@ -251,24 +260,19 @@ const ANSWERS: &[Fault] = &[
 
 const CHANGES: &[Fault] = &[
     ("a jam drops An", |played| {
-        let jams = |_: &Post, _: &Post, number| number == 11;
-        changed(played, jams, |post, _| post.drop(AN | KPG))
+        changed_by(11, played, |post, _| post.drop(AN | KPG))
     }),
     ("a jam drops KPg", |played| {
-        let jams = |_: &Post, _: &Post, number| number == 11;
-        changed(played, jams, |post, _| post.drop(KPG))
+        changed_by(11, played, |post, _| post.drop(KPG))
     }),
     ("a jam raises another bit", |played| {
-        let jams = |_: &Post, _: &Post, number| number == 11;
-        changed(played, jams, |post, _| post.word ^= JAM | JAM << 1)
+        changed_by(11, played, |post, _| post.word ^= JAM | JAM << 1)
     }),
     ("freeing drops An", |played| {
-        let frees = |_: &Post, _: &Post, number| number == 12;
-        changed(played, frees, |post, _| post.drop(AN | KPG))
+        changed_by(12, played, |post, _| post.drop(AN | KPG))
     }),
     ("a restoration frees", |played| {
-        let restores = |_: &Post, _: &Post, number| number == 10;
-        changed(played, restores, |_, down| down.drop(JAM))
+        changed_by(10, played, |_, down| down.drop(JAM))
     }),
     (
         "the head stays when a button jams",

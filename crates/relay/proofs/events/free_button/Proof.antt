@@ -1,3 +1,4 @@
+-- `free_button` meets its contract: the word without the mask of the jam is the word with the jam dropped.
 use Rattle.relay.specs.Relays.{up, raise, lower}
 use Rattle.relay.specs.Events.{freed}
 use Rattle.relay.proofs.Tests.{tests}

@@ -1,3 +1,4 @@
+-- `jam_button` meets its contract: the word with the mask of the jam is the word with the jam raised.
 use Rattle.relay.specs.Relays.{up, raise, lower}
 use Rattle.relay.specs.Events.{jammed}
 use Rattle.relay.proofs.Tests.{tests}

@@ -1,3 +1,4 @@
+-- `jam_hinders` meets its contract: it is the same tests of the number and of the bit, and a bit is up where it is not 0.
 use mathlib.Core.Bool.{Bool·not-not}
 use Rattle.relay.specs.Relays.{up}
 use Rattle.relay.specs.Events.{jamHinders}

@@ -1,3 +1,4 @@
+-- `nothing_to_free` meets its contract: it is the same tests of the number and of the bit, and down is not up.
 use mathlib.Core.Bool.{Bool·not-not}
 use Rattle.relay.specs.Relays.{up}
 use Rattle.relay.specs.Events.{nothingToFree}

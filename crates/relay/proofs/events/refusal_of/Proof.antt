@@ -1,3 +1,4 @@
+-- `refusal_of` meets its contract: each return stands behind the tests before it, which failed, and its own, which passed.
 use Rattle.relay.specs.Events.{refusal}
 use Rattle.relay.proofs.Tests.{tests}
 use Rattle.relay.proofs.events.refusal_of.Statement.{statement}

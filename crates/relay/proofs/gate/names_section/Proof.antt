@@ -1,3 +1,4 @@
+-- `names_section` meets its contract: it is the same three tests of the number.
 use Rattle.relay.specs.Line.{namesSection}
 use Rattle.relay.proofs.Tests.{tests}
 use Rattle.relay.proofs.gate.names_section.Statement.{statement}
