@@ -1,0 +1,9 @@
+pub mod Spelled
+pub mod Numbers
+pub mod Lexes
+pub mod Alike
+pub mod Tables
+pub mod Standing
+pub mod Prefixes
+pub mod Import
+pub mod Sheets
