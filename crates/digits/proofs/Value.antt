@@ -9,7 +9,7 @@ use borrow.Author.Tests.{lt-ltb, le-ltb, ltb-true, ltb-false}
 use lib.Dec.{ltb}
 use lib.ListN.{length, getD, length-append, List·getD-append}
 use Rattle.relay.proofs.Truth.{split}
-use Rattle.digits.specs.Digits.{digit, digitsIn, digits}
+use Rattle.digits.specs.Digits.{digit, digitsIn, digits, value}
 
 -- what holds of each digit, and of a number where it holds of a tenth of it, holds of every number
 module _ (P : ℕ → Type 0) (one : (n : ℕ) → n < 10 → P n) (more : (n : ℕ) → 10 ≤ n → P (n / 10) → P n) where
@@ -76,11 +76,6 @@ module _ (n : ℕ) where
   digits-long-64 h = digits-within 20 n (omega arith) (omega arith)
 
 -- ---- read as decimal
--- what digits say, from the left, after the number m
-pub value : ℕ → List ℕ → ℕ
-value m [] = m
-value m (d ∷ ds) = value (m * 10 + (d - 48)) ds
-
 pub value-append : (m : ℕ) (xs ys : List ℕ) → value m (xs ++ ys) ≡ value (value m xs) ys
 unfolding value
 value-append m [] ys = refl

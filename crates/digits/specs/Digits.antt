@@ -1,7 +1,7 @@
 -- A number in decimal: its digits, the highest first, with no leading zero; 0 is "0".
 -- That the digits are the number's and that none leads stands in proofs/Value.antt.
 -- Assumes nothing.
-use Prim.Native.Nat.{ℕ, zero, suc, _+_, _/_, _%_}
+use Prim.Native.Nat.{ℕ, zero, suc, _+_, _-_, _*_, _/_, _%_}
 use mathlib.Core.List.{List, [], _∷_, _++_}
 use lib.Dec.{ltb}
 use Rattle.relay.specs.Choice.{pick}
@@ -18,3 +18,8 @@ digitsIn (suc f) n = pick (ltb n 10) (digit n ∷ []) (digitsIn f (n / 10) ++ (d
 -- n has at most n + 1 digits
 unfoldable pub digits : ℕ → List ℕ
 digits n = digitsIn (suc n) n
+
+-- what digits say, from the left, after the number m
+unfoldable pub value : ℕ → List ℕ → ℕ
+value m [] = m
+value m (d ∷ ds) = value (m * 10 + (d - 48)) ds

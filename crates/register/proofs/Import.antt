@@ -13,7 +13,7 @@ use lib.Seq.{length-take-le}
 use Rattle.relay.proofs.Truth.{and-facts, split, least-or-below}
 use Rattle.sheet.specs.Entry.{numberOf, postOf, answerOf, stampOf}
 use Rattle.sheet.specs.Sheet.{Sheet}
-use Rattle.register.specs.Digits.{digits}
+use Rattle.digits.specs.Digits.{digits}
 use Rattle.register.specs.Texts.{cr, lf, lineEnd, Field, bare, line, lines, saidIn, saidAll, bareIn, bareAll}
 use Rattle.register.specs.Lexer.{class, Lexed, lexed, snoc, commas, part, spelled, act, step, run, begin, whole, isWhole, finish, lexText}
 use Rattle.register.specs.declared.Mode.{Mode}
@@ -22,7 +22,7 @@ use Rattle.register.specs.Records.{header, startRecord, kindRecord, even
 use Rattle.register.specs.Reading.{Stage, atHeader, atStart, atKinds, atEvents, Read, nothing, standing, after}
 use Rattle.register.specs.Register.{exported, lastEnd, RightText, Stand, isEvents, recordsIn, standIn, accepts, named, sheetIn}
 use Rattle.register.proofs.Spelled.{TidyIn, run-tidy, run-spelled}
-use Rattle.register.proofs.Numbers.{digits-plain}
+use Rattle.register.proofs.Plains.{digits-plain}
 use Rattle.register.proofs.Lexes.{PlainRecord, PlainRecords, run-append, lines-lex, run-grows}
 use Rattle.register.proofs.Standing.{Held, right-stands}
 use Rattle.register.proofs.Prefixes.{held-take, held-all, held-right, begins-stands, standing-few, blank, blank-last}

@@ -10,13 +10,13 @@ use Rattle.register.specs.declared.Mode.{Mode}
 use Rattle.register.specs.declared.Mode.the-variants.{Start, Plain, Inside, Closing}
 use Rattle.register.specs.declared.Act.{Act}
 use Rattle.register.specs.declared.Act.the-variants.{Open, Add, Close, EndField, EndLine, EndRecord, Break}
-use Rattle.register.proofs.Numbers as numbers
+use Rattle.register.proofs.Plains as bytes
 
 -- a record that can be written either way: it has a field, and none has a byte that means something
 abbrev pub PlainRecord : List (List ℕ) → Type 0
 PlainRecord [] = ⊥
-PlainRecord (f ∷ []) = numbers.Plain f
-PlainRecord (f ∷ g ∷ r) = numbers.Plain f × PlainRecord (g ∷ r)
+PlainRecord (f ∷ []) = bytes.Plain f
+PlainRecord (f ∷ g ∷ r) = bytes.Plain f × PlainRecord (g ∷ r)
 
 abbrev pub PlainRecords : List (List (List ℕ)) → Type 0
 PlainRecords [] = Unit {0}
@@ -28,12 +28,12 @@ run-append l [] b = refl
 run-append l (x ∷ a) b = run-append (step l x) a b
 
 module _ (rows : List (List Field)) where
-  plains : (fs : List Field) (f bs : List ℕ) → numbers.Plain bs → run (lexed Plain rows fs f) bs ≡ lexed Plain rows fs (f ++ bs)
+  plains : (fs : List Field) (f bs : List ℕ) → bytes.Plain bs → run (lexed Plain rows fs f) bs ≡ lexed Plain rows fs (f ++ bs)
   unfolding run step act
   plains fs f [] p = rw (append-nil f)
   plains fs f (b ∷ bs) p = rw (p .0) (plains fs (snoc f b) bs (p .1) ∙ ap (λ (x : List ℕ). lexed Plain rows fs x) (append-assoc f (b ∷ []) bs))
 
-  insides : (fs : List Field) (f bs : List ℕ) → numbers.Plain bs → run (lexed Inside rows fs f) bs ≡ lexed Inside rows fs (f ++ bs)
+  insides : (fs : List Field) (f bs : List ℕ) → bytes.Plain bs → run (lexed Inside rows fs f) bs ≡ lexed Inside rows fs (f ++ bs)
   unfolding run step act
   insides fs f [] p = rw (append-nil f)
   insides fs f (b ∷ bs) p = rw (p .0) (insides fs (snoc f b) bs (p .1) ∙ ap (λ (x : List ℕ). lexed Inside rows fs x) (append-assoc f (b ∷ []) bs))
@@ -58,7 +58,7 @@ module _ (rows : List (List Field)) where
   opens fs s = refl
 
   -- a field, quoted or not
-  pub field-lexes : (fs : List Field) (g : Field) → numbers.Plain (said g) → run (lexed Start rows fs []) (fieldText g) ≡ past fs g
+  pub field-lexes : (fs : List Field) (g : Field) → bytes.Plain (said g) → run (lexed Start rows fs []) (fieldText g) ≡ past fs g
   unfolding run
   field-lexes fs (bare []) p = refl
   field-lexes fs (bare (b ∷ bs)) p = ap (λ (l : Lexed). run l bs) (first-byte fs b (p .0)) ∙ plains fs (b ∷ []) bs (p .1)

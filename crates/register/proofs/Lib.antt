@@ -1,5 +1,5 @@
 pub mod Spelled
-pub mod Numbers
+pub mod Plains
 pub mod Lexes
 pub mod Alike
 pub mod Tables

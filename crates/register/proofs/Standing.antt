@@ -13,10 +13,10 @@ use Rattle.relay.specs.Kinds.{countFits, kindFits, kindsFit, tableOk}
 use Rattle.relay.proofs.Truth.{and-facts, split}
 use Rattle.sheet.specs.Entry.{entry, numberOf, postOf, answerOf, stampOf, inFields}
 use Rattle.sheet.specs.Sheet.{Sheet}
-use Rattle.register.specs.Digits.{digits, value}
+use Rattle.digits.specs.Digits.{digits, value}
 use Rattle.register.specs.Records.{header, startRecord, kindRecord, eventRecord, kindRecords, eventRecords, records, rightEvent, rightEvents, Right}
 use Rattle.register.specs.Reading.{Stage, atHeader, atStart, atKinds, atEvents, Read, known, nothing, alike, num, eventIn, mayStand, wanted, within, stands, takenAs, taken, standing, after}
-use Rattle.register.proofs.Numbers.{digits-value}
+use Rattle.digits.proofs.Value.{digits-value}
 use Rattle.register.proofs.Alike.{alike-refl, alike-eq}
 use Rattle.register.proofs.Tables.{fits-stands, last-stands, begun, begun-snoc, begun-ended, stands-last, stands-middle}
 

@@ -9,7 +9,7 @@ use Rattle.relay.specs.Choice.{pick}
 use Rattle.relay.specs.Kinds.{between}
 use Rattle.sheet.specs.Entry.{entry, stampOf, inFields}
 use Rattle.sheet.specs.Sheet.{Sheet}
-use Rattle.register.specs.Digits.{value}
+use Rattle.digits.specs.Digits.{value}
 use Rattle.register.specs.Records.{header, startRecord, kindRecord, eventRecord}
 
 -- which record is next

@@ -9,7 +9,7 @@ use lib.ListN.{length}
 use Rattle.relay.specs.Kinds.{tableOk}
 use Rattle.sheet.specs.Entry.{numberOf, postOf, answerOf, stampOf, inFields}
 use Rattle.sheet.specs.Sheet.{Sheet}
-use Rattle.register.specs.Digits.{digits}
+use Rattle.digits.specs.Digits.{digits}
 
 -- "position", "event", "post", "stamp", "answer"
 abbrev pub header : List (List ℕ)
