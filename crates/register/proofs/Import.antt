@@ -19,7 +19,9 @@ use Rattle.register.specs.Lexer.{class, Lexed, lexed, snoc, commas, part
 use Rattle.register.specs.declared.Mode.{Mode}
 use Rattle.register.specs.declared.Mode.the-variants.{Start, Plain, Inside, Closing, AtCr, Broken}
 use Rattle.register.specs.Records.{header, startRecord, kindRecord, eventRecord, kindRecords, eventRecords, records, Right}
-use Rattle.register.specs.Reading.{Stage, atHeader, atStart, atKinds, atEvents, Read, nothing, standing, after}
+use Rattle.register.specs.declared.Stage.{Stage}
+use Rattle.register.specs.declared.Stage.the-variants.{AtHeader, AtStart, AtKinds, AtEvents}
+use Rattle.register.specs.Reading.{Read, nothing, standing, after}
 use Rattle.register.specs.Register.{exported, lastEnd, RightText, Stand, isEvents, recordsIn, standIn, accepts, named, sheetIn}
 use Rattle.register.proofs.Spelled.{TidyIn, run-tidy, run-spelled}
 use Rattle.register.proofs.Plains.{digits-plain}
@@ -160,7 +162,7 @@ module _ (text : List ℕ) where
   pub stands-in : (j : ℕ) → j ≤ standIn text → Stand j text
   stands-in j h =
       let ms = lexText text .rows in
-      let held = held-take atHeader (record { stamp = 0; kinds = []; events = [] }) [] (saidAll ms) j h (refl, refl, refl) in
+      let held = held-take AtHeader (record { stamp = 0; kinds = []; events = [] }) [] (saidAll ms) j h (refl, refl, refl) in
       let on = held-right (held .0 .stage) (held .0 .sheet) (take j (saidAll ms)) (held .1) in
       record {
         sheet = on .0;
@@ -218,10 +220,10 @@ module _ (text : List ℕ) where
       (λ h. (false, sym (run-spelled l lineEnd tidy ∙ ap (λ (x : List ℕ). x ++ lineEnd) text-spelled) ∙ sym (ap spelled h) ∙ w))
 
 held-events : (g : Stage) (t : Sheet) (rs : List Rec) → isEvents g ≡ true → Held g t rs → (rs ≡ records t) × Right t
-held-events atHeader t rs e h = absurd (false≢true e)
-held-events atStart t rs e h = absurd (false≢true e)
-held-events atKinds t rs e h = absurd (false≢true e)
-held-events atEvents t rs e h = h
+held-events AtHeader t rs e h = absurd (false≢true e)
+held-events AtStart t rs e h = absurd (false≢true e)
+held-events AtKinds t rs e h = absurd (false≢true e)
+held-events AtEvents t rs e h = h
 
 -- what import accepts is a right text of the sheet that it gives, and the sheet is right
 pub accepted-right : (text : List ℕ) → accepts text ≡ true → Right (sheetIn text) × RightText (sheetIn text) text
@@ -230,7 +232,7 @@ accepted-right text e =
     let a = and-facts (isWhole (lexText text)) _ .0 e in
     let b = and-facts (eqb (standIn text) (length (recordsIn text))) _ .0 (a .1) in
     let o = ended-or-not text (a .0) in
-    let h = held-all atHeader (record { stamp = 0; kinds = []; events = [] }) [] (recordsIn text) (eqb-true (standIn text) (length (recordsIn text)) (b .0)) (refl, refl, refl) in
+    let h = held-all AtHeader (record { stamp = 0; kinds = []; events = [] }) [] (recordsIn text) (eqb-true (standIn text) (length (recordsIn text)) (b .0)) (refl, refl, refl) in
     let k = held-events (after nothing (recordsIn text) .stage) (sheetIn text) (recordsIn text) (b .1) h in
     (k .1, record { rows = lexText text .rows; ended = o .0; says = k .0; spells = o .1 })
 

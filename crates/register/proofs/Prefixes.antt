@@ -11,7 +11,9 @@ use Rattle.relay.specs.Kinds.{countFits, kindFits, kindsFit, tableOk, between}
 use Rattle.relay.proofs.Truth.{and-facts, split}
 use Rattle.sheet.specs.Sheet.{Sheet}
 use Rattle.register.specs.Records.{header, startRecord, kindRecord, eventRecord, kindRecords, eventRecords, records, rightEvents, Right}
-use Rattle.register.specs.Reading.{Stage, atHeader, atStart, atKinds, atEvents, Read, known, nothing, same, alike, num, eventIn, wanted, within, stands, takenAs, taken, standing, after}
+use Rattle.register.specs.declared.Stage.{Stage}
+use Rattle.register.specs.declared.Stage.the-variants.{AtHeader, AtStart, AtKinds, AtEvents}
+use Rattle.register.specs.Reading.{Read, known, nothing, same, alike, num, eventIn, wanted, within, stands, takenAs, taken, standing, after}
 use Rattle.register.proofs.Tables.{begun, begun-ended}
 use Rattle.register.proofs.Standing.{kinds-snoc, Held, keeps, All, right-stands}
 
@@ -81,10 +83,10 @@ from-kinds n (k ∷ ks) h b = (
 
 pub held-right : (g : Stage) (t : Sheet) (rs : List Rec) → Held g t rs → (u : Sheet) × Right u × (more : List Rec) × (records u ≡ rs ++ more)
 unfolding records least kindRecords eventRecords Onward
-held-right atHeader t rs held = (least 0, least-right 0 refl, records (least 0), rw (held .0))
-held-right atStart t rs held = (least 0, least-right 0 refl, startRecord 0 ∷ kindRecords 0 (0 ∷ 1 ∷ []), rw (held .0))
-held-right atKinds t rs held = rw (held .0) (from-kinds (t .stamp) (t .kinds) (held .1) (held .2))
-held-right atEvents t rs held = (t, held .1, [], sym (held .0) ∙ sym (append-nil rs))
+held-right AtHeader t rs held = (least 0, least-right 0 refl, records (least 0), rw (held .0))
+held-right AtStart t rs held = (least 0, least-right 0 refl, startRecord 0 ∷ kindRecords 0 (0 ∷ 1 ∷ []), rw (held .0))
+held-right AtKinds t rs held = rw (held .0) (from-kinds (t .stamp) (t .kinds) (held .1) (held .2))
+held-right AtEvents t rs held = (t, held .1, [], sym (held .0) ∙ sym (append-nil rs))
 
 -- ---- where all of xs and what follows stand, xs stands whatever follows
 pub begins-stands : (s : Read) (xs ys zs : List Rec) → standing s (xs ++ ys) ≡ length (xs ++ ys) → length xs ≤ standing s (xs ++ zs)
@@ -113,10 +115,10 @@ short x y r = and-false (same [] x) false refl
 
 blank-unlike : (g : Stage) (t : Sheet) → alike blank (wanted g t blank) ≡ false
 unfolding wanted startRecord kindRecord eventRecord
-blank-unlike atHeader t = short _ _ _
-blank-unlike atStart t = short _ _ _
-blank-unlike atKinds t = short _ _ _
-blank-unlike atEvents t = short _ _ _
+blank-unlike AtHeader t = short _ _ _
+blank-unlike AtStart t = short _ _ _
+blank-unlike AtKinds t = short _ _ _
+blank-unlike AtEvents t = short _ _ _
 
 blank-falls : (s : Read) → stands s blank ≡ false
 unfolding stands

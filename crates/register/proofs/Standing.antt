@@ -15,7 +15,9 @@ use Rattle.sheet.specs.Entry.{entry, numberOf, postOf, answerOf, stampOf, inFie
 use Rattle.sheet.specs.Sheet.{Sheet}
 use Rattle.digits.specs.Digits.{digits, value}
 use Rattle.register.specs.Records.{header, startRecord, kindRecord, eventRecord, kindRecords, eventRecords, records, rightEvent, rightEvents, Right}
-use Rattle.register.specs.Reading.{Stage, atHeader, atStart, atKinds, atEvents, Read, known, nothing, alike, num, eventIn, mayStand, wanted, within, stands, takenAs, taken, standing, after}
+use Rattle.register.specs.declared.Stage.{Stage}
+use Rattle.register.specs.declared.Stage.the-variants.{AtHeader, AtStart, AtKinds, AtEvents}
+use Rattle.register.specs.Reading.{Read, known, nothing, alike, num, eventIn, mayStand, wanted, within, stands, takenAs, taken, standing, after}
 use Rattle.digits.proofs.Value.{digits-value}
 use Rattle.register.proofs.Alike.{alike-refl, alike-eq}
 use Rattle.register.proofs.Tables.{fits-stands, last-stands, begun, begun-snoc, begun-ended, stands-last, stands-middle}
@@ -53,7 +55,7 @@ stamp-back p e = digits-value (stampOf e)
 
 module _ (t : ℕ) where
   module _ (ks : List ℕ) (es : List (List ℕ)) where
-    event-stands : (e : List ℕ) → rightEvent e ≡ true → stands (known atEvents t ks es) (eventRecord (suc (length es)) e) ≡ true
+    event-stands : (e : List ℕ) → rightEvent e ≡ true → stands (known AtEvents t ks es) (eventRecord (suc (length es)) e) ≡ true
     unfolding stands wanted within rightEvent
     event-stands e h =
         let f = and-facts (eqb (length e) 4) _ .0 h in
@@ -61,39 +63,39 @@ module _ (t : ℕ) where
         let p = suc (length es) in
         rw (event-back p e (f .0), alike-refl (eventRecord p e), stamp-back p e, g .0) (g .1)
 
-    event-taken : (p : ℕ) (e : List ℕ) → rightEvent e ≡ true → taken (known atEvents t ks es) (eventRecord p e) ≡ known atEvents t ks (es ++ (e ∷ []))
+    event-taken : (p : ℕ) (e : List ℕ) → rightEvent e ≡ true → taken (known AtEvents t ks es) (eventRecord p e) ≡ known AtEvents t ks (es ++ (e ∷ []))
     unfolding takenAs rightEvent
     event-taken p e h = rw (event-back p e (and-facts (eqb (length e) 4) _ .0 h .0))
 
-    kind-stands : (k : ℕ) → mayStand (length ks) k ≡ true → stands (known atKinds t ks es) (kindRecord (length ks) k) ≡ true
+    kind-stands : (k : ℕ) → mayStand (length ks) k ≡ true → stands (known AtKinds t ks es) (kindRecord (length ks) k) ≡ true
     unfolding stands wanted within kindRecord
     kind-stands k h = rw (digits-value k, h, alike-refl (kindRecord (length ks) k))
 
-    kind-taken : (i k : ℕ) → taken (known atKinds t ks es) (kindRecord i k) ≡ known (pick (eqb k 1) atEvents atKinds) t (ks ++ (k ∷ [])) es
+    kind-taken : (i k : ℕ) → taken (known AtKinds t ks es) (kindRecord i k) ≡ known (pick (eqb k 1) AtEvents AtKinds) t (ks ++ (k ∷ [])) es
     unfolding takenAs kindRecord
     kind-taken i k = rw (digits-value k)
 
   -- the events, one after the other
   events-stand : (ks : List ℕ) (done es : List (List ℕ)) → rightEvents es ≡ true
-      → All (known atEvents t ks done) (eventRecords (suc (length done)) es) (known atEvents t ks (done ++ es))
+      → All (known AtEvents t ks done) (eventRecords (suc (length done)) es) (known AtEvents t ks (done ++ es))
   unfolding eventRecords rightEvents
-  events-stand ks done [] h = rw (append-nil done) (none (known atEvents t ks done))
+  events-stand ks done [] h = rw (append-nil done) (none (known AtEvents t ks done))
   events-stand ks done (e ∷ es) h =
       let f = and-facts (rightEvent e) (rightEvents es) .0 h in
       let l : suc (length (done ++ (e ∷ []))) ≡ suc (suc (length done)) = omega (arith, length-append done (e ∷ [])) in
       let a = rw (l, append-assoc done (e ∷ []) es) at (events-stand ks (done ++ (e ∷ [])) es (f .1)) in
-      one (known atEvents t ks done) (eventRecord (suc (length done)) e) (known atEvents t ks (done ++ (e ∷ []))) (eventRecords (suc (suc (length done))) es) _
+      one (known AtEvents t ks done) (eventRecord (suc (length done)) e) (known AtEvents t ks (done ++ (e ∷ []))) (eventRecords (suc (suc (length done))) es) _
       (event-stands ks done e (f .0)) (event-taken ks done (suc (length done)) e (f .0)) a
 
   -- the kinds, one after the other, and then what follows
   kinds-stand : (n : ℕ) (done : List ℕ) (k : ℕ) (ks : List ℕ) (rs : List Rec) (s : Read) → n ≤ 32 → 2 ≤ n → length done + suc (length ks) ≡ n
-      → kindsFit n (length done) (k ∷ ks) ≡ true → All (known atEvents t (done ++ (k ∷ ks)) []) rs s
-      → All (known atKinds t done []) (kindRecords (length done) (k ∷ ks) ++ rs) s
+      → kindsFit n (length done) (k ∷ ks) ≡ true → All (known AtEvents t (done ++ (k ∷ ks)) []) rs s
+      → All (known AtKinds t done []) (kindRecords (length done) (k ∷ ks) ++ rs) s
   unfolding kindsFit kindRecords
   kinds-stand n done k [] rs s few two e h a =
       let f = last-stands n (length done) k (and-facts (kindFits n (length done) k) true .0 h .0) (omega arith) two in
       let g = rw (f .1) at (kind-taken done [] (length done) k) in
-      one (known atKinds t done []) (kindRecord (length done) k) (known atEvents t (done ++ (k ∷ [])) []) rs s (kind-stands done [] k (f .0)) g a
+      one (known AtKinds t done []) (kindRecord (length done) k) (known AtEvents t (done ++ (k ∷ [])) []) rs s (kind-stands done [] k (f .0)) g a
   kinds-stand n done k (j ∷ ks) rs s few two e h a =
       let c = and-facts (kindFits n (length done) k) (kindsFit n (length done + 1) (j ∷ ks)) .0 h in
       let f = fits-stands n (length done) k (c .0) few (omega arith) in
@@ -101,24 +103,24 @@ module _ (t : ℕ) where
       let l : length (done ++ (k ∷ [])) ≡ length done + 1 = length-append done (k ∷ []) in
       let m : length done + 1 ≡ suc (length done) = omega arith in
       let r = kinds-stand n (done ++ (k ∷ [])) j ks rs s few two (rw l (omega arith)) (rw l (c .1)) (rw (append-assoc done (k ∷ []) (j ∷ ks)) a) in
-      one (known atKinds t done []) (kindRecord (length done) k) (known atKinds t (done ++ (k ∷ [])) []) (kindRecords (suc (length done)) (j ∷ ks) ++ rs) s
+      one (known AtKinds t done []) (kindRecord (length done) k) (known AtKinds t (done ++ (k ∷ [])) []) (kindRecords (suc (length done)) (j ∷ ks) ++ rs) s
       (kind-stands done [] k (f .0)) g (rw (l, m) at r)
 
 table-stands : (t : ℕ) (ks : List ℕ) (es : List (List ℕ)) → tableOk ks ≡ true → rightEvents es ≡ true
-    → All (known atKinds t [] []) (kindRecords 0 ks ++ eventRecords 1 es) (known atEvents t ks es)
+    → All (known AtKinds t [] []) (kindRecords 0 ks ++ eventRecords 1 es) (known AtEvents t ks es)
 unfolding tableOk countFits
 table-stands t [] es h g = absurd (false≢true h)
 table-stands t (k ∷ ks) es h g =
     let n = suc (length ks) in
     let a = and-facts (leb 2 n && leb n 32) (kindsFit n 0 (k ∷ ks)) .0 h in
     let b = and-facts (leb 2 n) (leb n 32) .0 (a .0) in
-    kinds-stand t n [] k ks (eventRecords 1 es) (known atEvents t (k ∷ ks) es) (leb-true n 32 (b .1)) (leb-true 2 n (b .0)) (omega arith) (a .1) (events-stand t (k ∷ ks) [] es g)
+    kinds-stand t n [] k ks (eventRecords 1 es) (known AtEvents t (k ∷ ks) es) (leb-true n 32 (b .1)) (leb-true 2 n (b .0)) (omega arith) (a .1) (events-stand t (k ∷ ks) [] es g)
 
-start-stands : (t n : ℕ) → ltb n (2 ^ 32) ≡ true → stands (known atStart t [] []) (startRecord n) ≡ true
+start-stands : (t n : ℕ) → ltb n (2 ^ 32) ≡ true → stands (known AtStart t [] []) (startRecord n) ≡ true
 unfolding stands wanted within startRecord
 start-stands t n h = rw (digits-value n, h, alike-refl (startRecord n))
 
-start-taken : (t n : ℕ) → taken (known atStart t [] []) (startRecord n) ≡ known atKinds n [] []
+start-taken : (t n : ℕ) → taken (known AtStart t [] []) (startRecord n) ≡ known AtKinds n [] []
 unfolding takenAs startRecord
 start-taken t n = rw (digits-value n)
 
@@ -126,26 +128,26 @@ header-stands : stands nothing header ≡ true
 unfolding stands wanted within
 header-stands = rw (alike-refl header)
 
-header-taken : taken nothing header ≡ known atStart 0 [] []
+header-taken : taken nothing header ≡ known AtStart 0 [] []
 unfolding takenAs
 header-taken = refl
 
 -- the records of a right sheet all stand, and say that sheet
-pub right-stands : (t : Sheet) → Right t → All nothing (records t) (known atEvents (t .stamp) (t .kinds) (t .events))
+pub right-stands : (t : Sheet) → Right t → All nothing (records t) (known AtEvents (t .stamp) (t .kinds) (t .events))
 unfolding records
 right-stands t right =
-    one nothing header (known atStart 0 [] []) (startRecord (t .stamp) ∷ (kindRecords 0 (t .kinds) ++ eventRecords 1 (t .events))) _ header-stands header-taken
-    (one (known atStart 0 [] []) (startRecord (t .stamp)) (known atKinds (t .stamp) [] []) (kindRecords 0 (t .kinds) ++ eventRecords 1 (t .events)) _
+    one nothing header (known AtStart 0 [] []) (startRecord (t .stamp) ∷ (kindRecords 0 (t .kinds) ++ eventRecords 1 (t .events))) _ header-stands header-taken
+    (one (known AtStart 0 [] []) (startRecord (t .stamp)) (known AtKinds (t .stamp) [] []) (kindRecords 0 (t .kinds) ++ eventRecords 1 (t .events)) _
     (start-stands 0 (t .stamp) (right .stamp)) (start-taken 0 (t .stamp))
     (table-stands (t .stamp) (t .kinds) (t .events) (right .table) (right .events)))
 
 -- ---- back
 -- what has been read, where this is known
 abbrev pub Held : Stage → Sheet → List Rec → Type 0
-Held atHeader t rs = (rs ≡ []) × (t .kinds ≡ []) × (t .events ≡ [])
-Held atStart t rs = (rs ≡ header ∷ []) × (t .kinds ≡ []) × (t .events ≡ [])
-Held atKinds t rs = (rs ≡ header ∷ startRecord (t .stamp) ∷ kindRecords 0 (t .kinds)) × (ltb (t .stamp) (2 ^ 32) ≡ true) × (begun 0 (t .kinds) ≡ true) × (t .events ≡ [])
-Held atEvents t rs = (rs ≡ records t) × Right t
+Held AtHeader t rs = (rs ≡ []) × (t .kinds ≡ []) × (t .events ≡ [])
+Held AtStart t rs = (rs ≡ header ∷ []) × (t .kinds ≡ []) × (t .events ≡ [])
+Held AtKinds t rs = (rs ≡ header ∷ startRecord (t .stamp) ∷ kindRecords 0 (t .kinds)) × (ltb (t .stamp) (2 ^ 32) ≡ true) × (begun 0 (t .kinds) ≡ true) × (t .events ≡ [])
+Held AtEvents t rs = (rs ≡ records t) × Right t
 
 pub kinds-snoc : (i : ℕ) (ks : List ℕ) (k : ℕ) → kindRecords i (ks ++ (k ∷ [])) ≡ kindRecords i ks ++ (kindRecord (i + length ks) k ∷ [])
 unfolding kindRecords
@@ -194,17 +196,17 @@ events-next rs r t ks es e h g =
 pub keeps : (g : Stage) (t : Sheet) (r : Rec) (rs : List Rec) → stands (record { stage = g; sheet = t }) r ≡ true → Held g t rs
     → Held (takenAs g t r .stage) (takenAs g t r .sheet) (rs ++ (r ∷ []))
 unfolding takenAs wanted within kindRecords eventRecords begun records rightEvents rightEvent
-keeps atHeader t r rs h held = (ap₂ (λ (a : List Rec) (x : Rec). a ++ (x ∷ [])) (held .0) (is-wanted atHeader t r h), held .1, held .2)
-keeps atStart t r rs h held = (
-  ap₂ (λ (a : List Rec) (x : Rec). a ++ (x ∷ [])) (held .0) (is-wanted atStart t r h) ∙ ap (λ (ks : List ℕ). header ∷ startRecord (num r 3) ∷ kindRecords 0 ks) (sym (held .1)),
-  is-within atStart t r h,
+keeps AtHeader t r rs h held = (ap₂ (λ (a : List Rec) (x : Rec). a ++ (x ∷ [])) (held .0) (is-wanted AtHeader t r h), held .1, held .2)
+keeps AtStart t r rs h held = (
+  ap₂ (λ (a : List Rec) (x : Rec). a ++ (x ∷ [])) (held .0) (is-wanted AtStart t r h) ∙ ap (λ (ks : List ℕ). header ∷ startRecord (num r 3) ∷ kindRecords 0 ks) (sym (held .1)),
+  is-within AtStart t r h,
   rw (held .1),
   held .2,
 )
-keeps atKinds t r rs h held =
+keeps AtKinds t r rs h held =
     let k = num r 1 in
-    let may = is-within atKinds t r h in
-    let next = kinds-next rs r (t .stamp) (t .kinds) k (held .0) (is-wanted atKinds t r h) in
+    let may = is-within AtKinds t r h in
+    let next = kinds-next rs r (t .stamp) (t .kinds) k (held .0) (is-wanted AtKinds t r h) in
     let z : 0 + length (t .kinds) ≡ length (t .kinds) = omega arith in
     split (eqb k 1)
     (λ q. rw q ((
@@ -217,9 +219,9 @@ keeps atKinds t r rs h held =
       },
     )))
     (λ q. rw q (next, held .1, begun-snoc 0 (t .kinds) k (held .2) (rw z (stands-middle (length (t .kinds)) k may q)), held .3))
-keeps atEvents t r rs h held =
-    let w = and-facts (inFields (eventIn r)) (ltb (num r 3) (2 ^ 32)) .0 (is-within atEvents t r h) in (
-      events-next rs r (t .stamp) (t .kinds) (t .events) (eventIn r) (held .0) (is-wanted atEvents t r h),
+keeps AtEvents t r rs h held =
+    let w = and-facts (inFields (eventIn r)) (ltb (num r 3) (2 ^ 32)) .0 (is-within AtEvents t r h) in (
+      events-next rs r (t .stamp) (t .kinds) (t .events) (eventIn r) (held .0) (is-wanted AtEvents t r h),
       record {
         table = held .1 .table;
         stamp = held .1 .stamp;

@@ -6,17 +6,15 @@ use mathlib.Core.List.{List, [], _∷_, _++_}
 use lib.Dec.{eqb, ltb}
 use lib.ListN.{length, getD}
 use Rattle.relay.specs.Choice.{pick}
-use Rattle.relay.specs.Kinds.{between}
+use Rattle.relay.specs.Kinds.{origin, terminus, between}
 use Rattle.sheet.specs.Entry.{entry, stampOf, inFields}
 use Rattle.sheet.specs.Sheet.{Sheet}
+use Rattle.register.specs.declared.Stage.{Stage}
+use Rattle.register.specs.declared.Stage.the-variants.{AtHeader, AtStart, AtKinds, AtEvents}
 use Rattle.digits.specs.Digits.{value}
 use Rattle.register.specs.Records.{header, startRecord, kindRecord, eventRecord}
 
--- which record is next
-pub data Stage : Type 0 where
-  atHeader atStart atKinds atEvents : Stage
-
--- and the sheet so far
+-- which record is next, and the sheet so far
 pub record Read : Type 0 where
   pub stage : Stage
   pub sheet : Sheet
@@ -25,7 +23,7 @@ abbrev pub known : Stage → ℕ → List ℕ → List (List ℕ) → Read
 known g stamp kinds events = record { stage = g; sheet = record { stamp = stamp; kinds = kinds; events = events } }
 
 abbrev pub nothing : Read
-nothing = known atHeader 0 [] []
+nothing = known AtHeader 0 [] []
 
 -- ---- the same bytes, the same fields
 unfoldable pub same : List ℕ → List ℕ → Bool
@@ -49,31 +47,31 @@ eventIn r = entry (num r 1) (num r 2) (num r 4) (num r 3)
 
 -- post i may have kind k: 0 first; then 2, 3, 4, or a 1, which ends the table; at post 31 only a 1
 unfoldable pub mayStand : ℕ → ℕ → Bool
-mayStand i k = pick (eqb i 0) (eqb k 0) (eqb k 1 || (between k && ltb i 31))
+mayStand i k = pick (eqb i 0) (eqb k origin) (eqb k terminus || (between k && ltb i 31))
 
 -- the record that its numbers would be written as, at this stage
 unfoldable pub wanted : Stage → Sheet → List (List ℕ) → List (List ℕ)
-wanted atHeader t r = header
-wanted atStart t r = startRecord (num r 3)
-wanted atKinds t r = kindRecord (length (t .kinds)) (num r 1)
-wanted atEvents t r = eventRecord (suc (length (t .events))) (eventIn r)
+wanted AtHeader t r = header
+wanted AtStart t r = startRecord (num r 3)
+wanted AtKinds t r = kindRecord (length (t .kinds)) (num r 1)
+wanted AtEvents t r = eventRecord (suc (length (t .events))) (eventIn r)
 
 -- its numbers are in their bounds
 unfoldable pub within : Stage → Sheet → List (List ℕ) → Bool
-within atHeader t r = true
-within atStart t r = ltb (num r 3) (2 ^ 32)
-within atKinds t r = mayStand (length (t .kinds)) (num r 1)
-within atEvents t r = inFields (eventIn r) && ltb (num r 3) (2 ^ 32)
+within AtHeader t r = true
+within AtStart t r = ltb (num r 3) (2 ^ 32)
+within AtKinds t r = mayStand (length (t .kinds)) (num r 1)
+within AtEvents t r = inFields (eventIn r) && ltb (num r 3) (2 ^ 32)
 
 -- the record can stand next
 unfoldable pub stands : Read → List (List ℕ) → Bool
 stands s r = alike r (wanted (s .stage) (s .sheet) r) && within (s .stage) (s .sheet) r
 
 unfoldable pub takenAs : Stage → Sheet → List (List ℕ) → Read
-takenAs atHeader t r = known atStart (t .stamp) (t .kinds) (t .events)
-takenAs atStart t r = known atKinds (num r 3) (t .kinds) (t .events)
-takenAs atKinds t r = known (pick (eqb (num r 1) 1) atEvents atKinds) (t .stamp) (t .kinds ++ (num r 1 ∷ [])) (t .events)
-takenAs atEvents t r = known atEvents (t .stamp) (t .kinds) (t .events ++ (eventIn r ∷ []))
+takenAs AtHeader t r = known AtStart (t .stamp) (t .kinds) (t .events)
+takenAs AtStart t r = known AtKinds (num r 3) (t .kinds) (t .events)
+takenAs AtKinds t r = known (pick (eqb (num r 1) terminus) AtEvents AtKinds) (t .stamp) (t .kinds ++ (num r 1 ∷ [])) (t .events)
+takenAs AtEvents t r = known AtEvents (t .stamp) (t .kinds) (t .events ++ (eventIn r ∷ []))
 
 abbrev pub taken : Read → List (List ℕ) → Read
 taken s r = takenAs (s .stage) (s .sheet) r

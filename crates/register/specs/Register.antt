@@ -11,7 +11,9 @@ use Rattle.sheet.specs.Sheet.{Sheet}
 use Rattle.register.specs.Texts.{Field, lineEnd, lines, bareAll, saidAll}
 use Rattle.register.specs.Lexer.{isWhole, lexText}
 use Rattle.register.specs.Records.{records, Right}
-use Rattle.register.specs.Reading.{Stage, atHeader, atStart, atKinds, atEvents, nothing, standing, after}
+use Rattle.register.specs.declared.Stage.{Stage}
+use Rattle.register.specs.declared.Stage.the-variants.{AtHeader, AtStart, AtKinds, AtEvents}
+use Rattle.register.specs.Reading.{nothing, standing, after}
 
 -- ---- export: nothing quoted, the last line end there
 unfoldable pub exported : Sheet → List ℕ
@@ -43,10 +45,10 @@ pub record Stand (j : ℕ) (text : List ℕ) : Type 0 where
 
 -- ---- import
 abbrev pub isEvents : Stage → Bool
-isEvents atHeader = false
-isEvents atStart = false
-isEvents atKinds = false
-isEvents atEvents = true
+isEvents AtHeader = false
+isEvents AtStart = false
+isEvents AtKinds = false
+isEvents AtEvents = true
 
 abbrev pub recordsIn : List ℕ → List (List (List ℕ))
 recordsIn text = saidAll (lexText text .rows)

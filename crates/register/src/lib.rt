@@ -33,6 +33,14 @@ pub enum Act {
     Break,
 }
 
+// Which record of a register is next.
+pub enum Stage {
+    AtHeader,
+    AtStart,
+    AtKinds,
+    AtEvents,
+}
+
 // Most bytes of a register are digits, which stand past the comma.
 pub fn class_of(b: u8) -> Class
     ensures { λ r. ⌜ r ≡ class b ⌝ }
