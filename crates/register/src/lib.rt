@@ -12,6 +12,9 @@ pub enum Class {
     Other,
 }
 
+// Refused: a record of the text cannot stand there, or is missing.
+pub const WRONG_RECORD: u32 = 28;
+
 // Where the next byte stands: first of a field; in a field; in quotes; after a quote in quotes; after CR; past a break.
 pub enum Mode {
     Start,
