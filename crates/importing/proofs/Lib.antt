@@ -1,3 +1,4 @@
 pub mod Letters
 pub mod Counts
 pub mod Fold
+pub mod Settled

@@ -13,7 +13,7 @@ use crate::steps::State;
 const WORD: u64 = 4294967296;
 
 // So many events are counted, 2 to the 63rd: a text in lent bytes has not as many.
-const MOST_COUNTED: u64 = 9223372036854775808;
+pub const MOST_COUNTED: u64 = 9223372036854775808;
 
 // The number that a mark says, where it has 32 bits.
 pub fn number_of(m: u64) -> u32

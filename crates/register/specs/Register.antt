@@ -44,6 +44,10 @@ pub record Stand (j : ℕ) (text : List ℕ) : Type 0 where
   pub spells : text ++ lineEnd ≡ lines rows ++ rest
 
 -- ---- import
+-- refused: a record of the text cannot stand there, or is missing
+abbrev pub wrongRecord : ℕ
+wrongRecord = 28
+
 abbrev pub isEvents : Stage → Bool
 isEvents AtHeader = false
 isEvents AtStart = false
