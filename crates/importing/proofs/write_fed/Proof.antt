@@ -1,7 +1,10 @@
+use Prim.Native.Nat.{_+_, _*_, _/_}
+use mathlib.Core.Path.{_≡_}
+use Rattle.sheet.specs.Writing.{bytesFor}
 use Rattle.relay.proofs.Truth.{not-facts, not-false-facts}
 use Rattle.importing.proofs.Settled.{not-done, too-many, too-long, refused-write, good-write}
 use Rattle.importing.specs.Rooms.{fedAt}
-use Rattle.importing.specs.Importing.{refused}
+use Rattle.importing.specs.Importing.{refused, imported}
 use Rattle.register.specs.Register.{wrongRecord}
 use lib.Seq.{length-take-le}
 use native.Mathlib.Omega.{arith}
@@ -125,7 +128,9 @@ returns-5 c =
     let f = fedAt (a .s) (a .kinds .now) (a .events .now) in
     let o = a .out .now in
     let e = c .before .before .before .write .ensures in
-    good-write f o (sym (c .before .before .before .before .before .before .before .before .before .before .before .before .is-done .ensures) ∙ not-false-facts (c .before .before .before .before .before .before .before .before .before .before .before .before .is-done .result) .0 (c .before .before .before .before .before .before .before .before .before .before .before .if1 .left)) (c .before .before .before .before .before .before .before .before .before .if2 .left) (c .before .before .before .before .before .before .before .if3 .left) _ _ (e .0) (e .1) (c .if4 .left)
+    let n : 512 + (a .s .events + 59) / 60 * 512 ≡ bytesFor (a .s .events) = omega arith in
+    let g = good-write f o (sym (c .before .before .before .before .before .before .before .before .before .before .before .before .is-done .ensures) ∙ not-false-facts (c .before .before .before .before .before .before .before .before .before .before .before .before .is-done .result) .0 (c .before .before .before .before .before .before .before .before .before .before .before .if1 .left)) (c .before .before .before .before .before .before .before .before .before .if2 .left) (c .before .before .before .before .before .before .before .if3 .left) _ _ (e .0) (e .1) (c .if4 .left) in
+    (ap imported n ∙ g .0, g .1)
 
 pub write-fed-spec : {M : Type 1} → statement M
 write-fed-spec =
