@@ -23,7 +23,7 @@ use Rattle.register.specs.declared.Stage.{Stage}
 use Rattle.register.specs.declared.Stage.the-variants.{AtHeader, AtStart, AtKinds, AtEvents}
 use Rattle.register.specs.Reading.{Read, nothing, standing, after}
 use Rattle.register.specs.Register.{exported, lastEnd, RightText, Stand, isEvents, recordsIn, standIn, accepts, named, sheetIn}
-use Rattle.register.proofs.Spelled.{TidyIn, run-tidy, run-spelled}
+use Rattle.register.proofs.Spelled.{TidyIn, nothing-spelled, run-tidy, run-spelled}
 use Rattle.register.proofs.Plains.{digits-plain}
 use Rattle.register.proofs.Lexes.{PlainRecord, PlainRecords, run-append, lines-lex, run-grows}
 use Rattle.register.proofs.Standing.{Held, right-stands}
@@ -140,12 +140,8 @@ module _ (text : List ℕ) where
   unfolding spelled
   spelled-front x s e = (part (x .mode) (x .fields) (x .field), sym e)
 
-  begun : spelled begin ≡ []
-  unfolding spelled part lines commas
-  begun = refl
-
   text-spelled : spelled l ≡ text
-  text-spelled = run-spelled begin text refl ∙ ap (λ (x : List ℕ). x ++ text) begun
+  text-spelled = run-spelled begin text refl ∙ ap (λ (x : List ℕ). x ++ text) nothing-spelled
 
   tidy : TidyIn l
   tidy = run-tidy begin text refl

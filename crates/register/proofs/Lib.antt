@@ -2,8 +2,10 @@ pub mod Spelled
 pub mod Plains
 pub mod Lexes
 pub mod Alike
+pub mod Places
 pub mod Tables
 pub mod Standing
 pub mod Prefixes
+pub mod More
 pub mod Import
 pub mod Sheets

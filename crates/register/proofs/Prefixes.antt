@@ -21,15 +21,15 @@ abbrev Rec : Type 0
 Rec = List (List ℕ)
 
 module _ (s : Read) (r : Rec) (rs : List Rec) where
-  stood : stands s r ≡ true → standing s (r ∷ rs) ≡ suc (standing (taken s r) rs)
+  pub stood : stands s r ≡ true → standing s (r ∷ rs) ≡ suc (standing (taken s r) rs)
   unfolding standing
   stood e = rw e
 
-  fell : stands s r ≡ false → standing s (r ∷ rs) ≡ 0
+  pub fell : stands s r ≡ false → standing s (r ∷ rs) ≡ 0
   unfolding standing
   fell e = rw e
 
-empty : (s : Read) → standing s [] ≡ 0
+pub empty : (s : Read) → standing s [] ≡ 0
 unfolding standing
 empty s = refl
 
