@@ -39,7 +39,7 @@ every-right [] h = refl
 every-right (e ∷ es) h = rw (h 0 (omega arith)) (every-right es (λ i l. h (suc i) (omega arith)))
 
 -- ---- kinds are small
-between-small : (k : ℕ) → between k ≡ true → k < 2 ^ 32
+pub between-small : (k : ℕ) → between k ≡ true → k < 2 ^ 32
 unfolding between
 between-small k e =
     or-facts (eqb k 2) _ (λ z. omega (arith, eqb-true k 2 z)) (λ e′. or-facts (eqb k 3) _ (λ z. omega (arith, eqb-true k 3 z)) (λ z. omega (arith, eqb-true k 4 z)) e′) e
