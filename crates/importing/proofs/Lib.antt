@@ -3,4 +3,7 @@ pub mod Marks
 pub mod Judged
 pub mod Counts
 pub mod Fold
+pub mod Kept
+pub mod Follows
+pub mod Ends
 pub mod Settled

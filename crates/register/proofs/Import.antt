@@ -77,7 +77,7 @@ records-plain t =
     (header-plain, ((tt, (tt, (tt, (digits-plain (t .stamp), tt)))), plain-append (kindRecords 0 (t .kinds)) (eventRecords 1 (t .events)) (kinds-plain 0 (t .kinds)) (events-plain 1 (t .events))))
 
 -- ---- lists of records
-said-append : (xs ys : List Row) → saidAll (xs ++ ys) ≡ saidAll xs ++ saidAll ys
+pub said-append : (xs ys : List Row) → saidAll (xs ++ ys) ≡ saidAll xs ++ saidAll ys
 unfolding saidAll
 said-append [] ys = refl
 said-append (x ∷ xs) ys = ap (λ (l : List Rec). saidIn x ∷ l) (said-append xs ys)
