@@ -6,4 +6,5 @@ pub mod Fold
 pub mod Kept
 pub mod Follows
 pub mod Ends
+pub mod Runs
 pub mod Settled

@@ -89,7 +89,7 @@ said-take zero (x ∷ xs) = refl
 said-take (suc j) [] = refl
 said-take (suc j) (x ∷ xs) = ap (λ (l : List Rec). saidIn x ∷ l) (said-take j xs)
 
-said-long : (xs : List Row) → length (saidAll xs) ≡ length xs
+pub said-long : (xs : List Row) → length (saidAll xs) ≡ length xs
 unfolding saidAll
 said-long [] = refl
 said-long (x ∷ xs) = ap suc (said-long xs)

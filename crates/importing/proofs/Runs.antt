@@ -1,0 +1,80 @@
+-- Byte after byte, a text taken by value follows what is read of it; and so it does at its end.
+-- Assumes nothing.
+use Prim.Native.Nat.{ℕ, zero, suc, _+_, _*_, _≤_, _<_, _^_, min}
+use mathlib.Core.Path.{_≡_, refl, sym, ap, subst, _∙_}
+use mathlib.Core.Logic.{_⊎_, inl, inr}
+use mathlib.Core.Bool.{Bool, true, false, _&&_}
+use mathlib.Core.List.{List, [], _∷_, _++_, append-assoc, append-nil}
+use native.Mathlib.Omega.{arith}
+use lib.Dec.{eqb}
+use lib.ListN.{length, length-append}
+use Rattle.relay.specs.Choice.{pick}
+use Rattle.relay.proofs.Truth.{split}
+use Rattle.register.specs.Lexer.{class, action, Lexed, lexed, snoc, part, act, step, run, begin, whole, isWhole, finish, lexText}
+use Rattle.register.specs.Reading.{nothing}
+use Rattle.register.specs.Texts.{Field, cr, lf, lineEnd, saidAll}
+use Rattle.register.specs.declared.Act.{Act}
+use Rattle.register.specs.declared.Act.the-variants.{Open, Add, Close, EndField, EndLine, EndRecord, Break}
+use Rattle.register.specs.declared.Mode.{Mode}
+use Rattle.register.specs.declared.Mode.the-variants.{Start, Plain, Inside, Closing, AtCr, Broken}
+use Rattle.register.proofs.Import.{said-append, said-long}
+use Rattle.register.proofs.Lexes.{run-append, run-grows}
+use Rattle.register.proofs.More.{standing-over, rows-few}
+use Rattle.importing.specs.Importing as importing
+use Rattle.importing.specs.Rooms.{Fed, fedAt, keptAt, fedNext, fed}
+use Rattle.importing.specs.Steps.{begun, stopped, acted, stateNext, mostCounted}
+use Rattle.importing.specs.declared.steps.State.{State}
+use Rattle.importing.proofs.Ends.{breaks, ends}
+use Rattle.importing.proofs.Fold.{fed-append}
+use Rattle.importing.proofs.Follows as follows
+use Rattle.importing.proofs.Follows.{On, Off, Follows, standing-in}
+use Rattle.importing.proofs.Kept.{kept-none}
+
+-- ---- one byte
+module _ (l : Lexed) (f : Fed) (b : ℕ) where
+  abbrev s : State
+  s = f .state
+
+  on-act : (a : Act) → On l f → length (saidAll (l .rows)) < mostCounted → Follows (act a b (l .mode) (l .rows) (l .fields) (l .field)) (keptAt s (acted a s b) (f .kinds) (f .events))
+  unfolding act
+  on-act Open o few = inl (follows.opened l f o)
+  on-act Add o few = inl (follows.added l f o b)
+  on-act Close o few = inl (follows.closed l f o)
+  on-act EndField o few = inl (follows.ended l f o Start)
+  on-act EndLine o few = inl (follows.ended l f o AtCr)
+  on-act EndRecord o few = ends l f o few
+  on-act Break o few = inr (breaks l f o few [] (snoc (part (l .mode) (l .fields) (l .field)) b))
+
+  on-next : On l f → length (saidAll (l .rows)) < mostCounted → Follows (step l b) (fedNext f b)
+  unfolding step fedNext stateNext
+  on-next o few = rw (o .mode) (on-act (action (l .mode) (class b)) o few)
+
+  -- what has stopped stays so
+  next-stopped : s .mode ≡ Broken → stateNext s b ≡ stopped s
+  unfolding stateNext
+  next-stopped e = rw e
+
+-- ---- past a record that does not stand
+-- the text goes on, and no more of it counts
+off-fed : (l : Lexed) (f : Fed) (t : List ℕ) → Off l f → Off l (fed f t)
+unfolding fed fedNext
+off-fed l f [] o = o
+off-fed l f (b ∷ t) o = off-fed l (fedNext f b) t (rw (next-stopped l f b (o .stops)) (record { stops = refl; few = o .few; count = o .count; over = o .over }))
+
+-- a text that is broken stays so
+broken-same : (l : Lexed) (t : List ℕ) → l .mode ≡ Broken → (run l t .mode ≡ Broken) × (standing-in (run l t) ≡ standing-in l)
+unfolding run step act
+broken-same l [] e = (e, refl)
+broken-same l (b ∷ t) e = rw e (broken-same (lexed Broken (l .rows) [] (snoc (part Broken (l .fields) (l .field)) b)) t refl)
+
+-- so much of the text was read already
+off-run : (l : Lexed) (f : Fed) (t : List ℕ) → Off l f → Off (run l t) f
+off-run l f t o = go (o .over)
+  where
+    go : (l .mode ≡ Broken) ⊎ (standing-in l < length (saidAll (l .rows))) → Off (run l t) f
+    go (inl e) = record { stops = o .stops; few = o .few; count = o .count ∙ ap suc (sym (broken-same l t e .1)); over = inl (broken-same l t e .0) }
+    go (inr h) =
+        let z = run-grows l t in
+        let q : saidAll (run l t .rows) ≡ saidAll (l .rows) ++ saidAll (z .0) = ap (λ (x : List (List Field)). saidAll x) (z .1) ∙ said-append (l .rows) (z .0) in
+        let n : standing-in (run l t) ≡ standing-in l = rw q (standing-over nothing (saidAll (l .rows)) (saidAll (z .0)) h) in
+        record { stops = o .stops; few = o .few; count = o .count ∙ ap suc (sym n); over = inr (rw q (omega (arith, length-append (saidAll (l .rows)) (saidAll (z .0)), rw q at n))) }
