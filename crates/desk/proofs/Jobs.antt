@@ -8,7 +8,7 @@ use native.Mathlib.Omega.{arith}
 use borrow.Author.Tests.{lt-ltb, ltb-true, eqb-true}
 use lib.Dec.{eqb, ltb}
 use Rattle.relay.proofs.Truth.{by}
-use Rattle.listing.specs.Digits.{digits}
+use Rattle.digits.specs.Digits.{digits}
 use Rattle.desk.specs.Words.{positionOf, isWord, workWord, whyWord, whyAt, oneWord, twoWords, jobOf}
 use Rattle.desk.specs.declared.words.Position.{Position}
 use Rattle.desk.specs.declared.words.Position.the-variants.{Is, Wrong}

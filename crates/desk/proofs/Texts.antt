@@ -1,6 +1,6 @@
 -- The text of a question by its outcomes, and that the event it names is one of the sheet's.
 -- Assumes nothing.
-use Prim.Native.Nat.{ℕ, _-_, _^_, _≤_, _<_}
+use Prim.Native.Nat.{ℕ, _-_, _≤_, _<_}
 use mathlib.Core.Path.{_≡_, refl, sym, ap, _∙_}
 use mathlib.Core.Logic.{_↔_}
 use mathlib.Core.List.{List, [], _∷_}
@@ -13,8 +13,8 @@ use Rattle.sheet.specs.Reading.{verdictOf, decode, found, handed, readOf}
 use Rattle.sheet.specs.declared.Found.{Found}
 use Rattle.working.proofs.Works.{front, bad, good}
 use Rattle.listing.proofs.Spaces.{spaced-none}
-use Rattle.listing.proofs.Value.{digits-one, no-leading-zero}
-use Rattle.listing.specs.Digits.{digits}
+use Rattle.digits.proofs.Value.{digits-one, no-leading-zero}
+use Rattle.digits.specs.Digits.{digits}
 use Rattle.listing.specs.Lines.{ended, eventLine, refusedLine}
 use Rattle.why.proofs.Asked.{event-read}
 use Rattle.why.proofs.Named.{answerable, since-within}
@@ -32,10 +32,10 @@ refused-other : (n b : ℕ) → refusedLine n b ≡ startLine → ⊥
 unfolding refusedLine
 refused-other n b e = omega (arith, ap (λ (t : List ℕ). getD t 0 0) (e ∙ start-bytes))
 
-event-other : (k e p r : ℕ) → 1 ≤ k → k < 2 ^ 32 → eventLine k e p r ≡ startLine → ⊥
+event-other : (k e p r : ℕ) → 1 ≤ k → eventLine k e p r ≡ startLine → ⊥
 unfolding eventLine
-event-other k e p r h l q =
-    let first = no-leading-zero k h l in
+event-other k e p r h q =
+    let first = no-leading-zero k h in
     let some = List·getD-append (digits k) (ended (e ∷ p ∷ r ∷ [])) 0 0 (not-empty (digits k) first) in
     omega (arith, first, some, ap (λ (t : List ℕ). getD t 0 0) (q ∙ start-bytes))
   where
@@ -88,7 +88,7 @@ only-start : (s : List ℕ) (k : ℕ) (r : Since) → r ≡ sinceOf s k → sinc
 only-start s k r e t =
     equal-or-not (r .number) 0
     (λ z. equal-or-not (r .position) 0 (λ p. (z, p))
-    (λ p. absurd (event-other (r .position) _ _ _ (omega arith) (omega (arith, named-few s k r e z p)) (sym (text-event s k r e z p) ∙ t))))
+    (λ p. absurd (event-other (r .position) _ _ _ (omega arith) (sym (text-event s k r e z p) ∙ t))))
     (λ n. absurd (refused-other (r .number) (r .block) (sym (text-refused s k r e n) ∙ t)))
 
 -- 'RL up from the start gives position 0': a 0 alone is printed exactly there, and never for a refusal

@@ -7,7 +7,7 @@ use Rattle.relay.specs.Choice.{pick}
 use Rattle.sheet.specs.Entry.{numberOf, postOf, answerOf}
 use Rattle.sheet.specs.Reading.{decode}
 use Rattle.sheet.specs.Sheet.{Sheet}
-use Rattle.listing.specs.Digits.{digits}
+use Rattle.digits.specs.Digits.{digits}
 use Rattle.listing.specs.Lines.{line, eventLine, refusedLine}
 use Rattle.why.specs.Why.{eventAt, sinceOf}
 use Rattle.why.specs.declared.Since.{Since}

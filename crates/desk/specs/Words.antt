@@ -1,40 +1,24 @@
 -- The words that the program is started with, and the job that they ask for: `desk`, `desk work`, `desk why POSITION`.
 -- That a position is read exactly where the listing would write it so stands in proofs/Position.antt.
 -- Assumes nothing.
-use Prim.Native.Nat.{ℕ, _+_, _-_, _*_, _^_}
+use Prim.Native.Nat.{ℕ, _-_, _^_}
 use mathlib.Core.Bool.{Bool, true, false, _&&_}
 use mathlib.Core.List.{List, [], _∷_}
 use lib.Dec.{eqb, leb, ltb}
 use Rattle.relay.specs.Choice.{pick}
+use Rattle.digits.specs.Numerals.{marked}
 use Rattle.desk.specs.declared.words.Position.{Position}
 use Rattle.desk.specs.declared.words.Position.the-variants.{Is, Wrong}
 use Rattle.desk.specs.declared.words.Job.{Job}
 use Rattle.desk.specs.declared.words.Job.the-variants as job
 
 -- ---- a position: 'numbers have no leading zeros'
--- '0' is 48, '9' is 57
-unfoldable pub isDigit : ℕ → Bool
-isDigit b = leb 48 b && leb b 57
-
--- the number n with one digit more: none follows a 0, and it stays a number of 32 bits
-unfoldable pub withDigit : ℕ → ℕ → Position
-withDigit n b =
-    pick (eqb n 0) Wrong
-    (pick (isDigit b) (pick (ltb (n * 10 + (b - 48)) (2 ^ 32)) (Is (n * 10 + (b - 48))) Wrong) Wrong)
-
--- what is said of a text that goes on
-abbrev pub onward : Position → (ℕ → Position) → Position
-onward Wrong f = Wrong
-onward (Is n) f = f n
-
--- the bytes bs after the digits of the number n
-unfoldable pub further : List ℕ → ℕ → Position
-further [] n = Is n
-further (b ∷ bs) n = onward (withDigit n b) (further bs)
+-- what the mark of a text says: the number and 1, of 32 bits
+unfoldable pub positionAt : ℕ → Position
+positionAt m = pick (eqb m 0) Wrong (pick (leb m (2 ^ 32)) (Is (m - 1)) Wrong)
 
 unfoldable pub positionOf : List ℕ → Position
-positionOf [] = Wrong
-positionOf (b ∷ bs) = pick (isDigit b) (further bs (b - 48)) Wrong
+positionOf t = positionAt (marked 0 t)
 
 -- ---- the words
 unfoldable pub isWord : List ℕ → List ℕ → Bool

@@ -76,7 +76,7 @@ fn work_sheet() {
     };
     let done = working::work(&s[..n], &mut out);
     if done.number != 0 {
-        tell_refused(done.number, done.block);
+        tell_refused(done.number, done.block as u64);
         return;
     }
     stream::print(&out[..n]);
@@ -93,10 +93,10 @@ fn say_since(position: u32) {
     stream::print(&line[..m]);
 }
 
-// Says on standard error that the sheet is refused.
-fn tell_refused(number: u32, block: u32) {
+// Says on standard error that the sheet is refused, and where.
+fn tell_refused(number: u32, place: u64) {
     let mut line = [0u8; listing::LINE];
-    let m = listing::refused_line(&mut line, number, block);
+    let m = listing::refused_line(&mut line, number, place);
     stream::write_whole(STDERR_FILENO, &line[..m]);
 }
 

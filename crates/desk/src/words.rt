@@ -1,6 +1,6 @@
 // The words that the program is started with, and the job that they ask for.
 ghost use mathlib.Core.Path.{_≡_};
-ghost use Rattle.desk.specs.Words.{isDigit, withDigit, positionOf, isWord, oneWord, twoWords, jobOf};
+ghost use Rattle.desk.specs.Words.{positionOf, isWord, oneWord, twoWords, jobOf};
 
 // The position that a text says, where it says one.
 pub enum Position {
@@ -16,54 +16,24 @@ pub enum Job {
     Unknown,
 }
 
-// '0' is 48, '9' is 57.
-fn is_digit(byte: u8) -> bool
-    ensures { λ r. ⌜ r ≡ isDigit byte ⌝ }
-{
-    if byte < 48 {
-        return false;
-    }
-    byte <= 57
-}
-
-// The number n with one digit more.
-fn with_digit(n: u32, byte: u8) -> Position
-    ensures { λ r. ⌜ r ≡ withDigit n byte ⌝ }
-{
-    if n == 0 {
-        return Position::Wrong;
-    }
-    if !is_digit(byte) {
-        return Position::Wrong;
-    }
-    let m = n as u64 * 10 + (byte - 48) as u64;
-    if m < 4294967296 {
-        return Position::Is(m as u32);
-    }
-    Position::Wrong
-}
-
-// The position that a text says, digit by digit.
+// The position that a text says, digit by digit: its mark is the number and 1.
 pub fn position_of(text: &[u8]) -> Position
     ensures { λ r. ⌜ r ≡ positionOf (now (text .entry)) ⌝ }
 {
-    if text.len() == 0 {
-        return Position::Wrong;
-    }
-    let first = text[0];
-    if !is_digit(first) {
-        return Position::Wrong;
-    }
-    let mut n = (first - 48) as u32;
-    let mut i: usize = 1;
+    let mut mark: u64 = 0;
+    let mut i: usize = 0;
     while i < text.len() {
-        let Position::Is(more) = with_digit(n, text[i]) else {
-            return Position::Wrong;
-        };
-        n = more;
+        mark = digits::with_digit(mark, text[i]);
         i += 1;
     }
-    Position::Is(n)
+    if mark == 0 {
+        return Position::Wrong;
+    }
+    if mark <= 4294967296 {
+        let n = (mark - 1) as u32;
+        return Position::Is(n);
+    }
+    Position::Wrong
 }
 
 // Whether the text is this word.

@@ -8,7 +8,6 @@ use mathlib.Core.List.{List, [], _∷_, _++_, append-assoc, append-nil}
 use native.Mathlib.Omega.{arith}
 use borrow.Author.Tests.{leb-true, le-leb, lt-leb, ne-eqb}
 use lib.Dec.{leb}
-use Rattle.relay.specs.Choice.{pick}
 use Rattle.relay.proofs.Truth.{and-facts, split, pick-same, equal-or-not, least-or-below}
 use Rattle.digits.specs.Digits.{digit, digits}
 use Rattle.digits.specs.Numerals.{wrong, limit, tenth, isDigit, withDigit, marked}
@@ -66,7 +65,7 @@ module _ (b : ℕ) where
 
 -- ---- what a mark says
 -- the mark m of the bytes f
-data Says (f : List ℕ) (m : ℕ) : Type 0 where
+pub data Says (f : List ℕ) (m : ℕ) : Type 0 where
   nothing : f ≡ [] → m ≡ 0 → Says f m
   number : (n : ℕ) → f ≡ digits n → n < limit → m ≡ suc n → Says f m
   other : m ≡ wrong → Says f m
@@ -94,7 +93,8 @@ unfolding marked
 says-after [] f m s = rw (append-nil f) s
 says-after (b ∷ bs) f m s = rw append-assoc at (says-after bs (f ++ (b ∷ [])) (withDigit m b) (next f m b s))
 
-says : (f : List ℕ) → Says f (marked 0 f)
+-- the mark of a text says what it is
+pub says : (f : List ℕ) → Says f (marked 0 f)
 says f = says-after f [] 0 (nothing refl refl)
 
 -- ---- a text is read as a number exactly where it is its digits

@@ -5,18 +5,16 @@ use Prim.Native.Nat.{ℕ, zero, suc, _+_, _-_, _*_, _/_, _%_, _^_, _≤_, _<_}
 use mathlib.Core.Path.{_≡_, refl, sym, ap, _∙_}
 use mathlib.Core.List.{List, [], _∷_, _++_}
 use native.Mathlib.Omega.{arith}
-use borrow.Author.Tests.{lt-ltb, le-ltb, ltb-true, ltb-false}
-use lib.Dec.{ltb}
+use borrow.Author.Tests.{lt-ltb, le-ltb}
 use lib.ListN.{length, getD, length-append, List·getD-append}
-use Rattle.relay.proofs.Truth.{split}
+use Rattle.relay.proofs.Truth.{least-or-below}
 use Rattle.digits.specs.Digits.{digit, digitsIn, digits, value}
 
 -- what holds of each digit, and of a number where it holds of a tenth of it, holds of every number
 module _ (P : ℕ → Type 0) (one : (n : ℕ) → n < 10 → P n) (more : (n : ℕ) → 10 ≤ n → P (n / 10) → P n) where
   by-room : (f n : ℕ) → n < f → P n
   by-room zero n h = absurd (omega arith)
-  by-room (suc f) n h =
-      split (ltb n 10) (λ e. one n (ltb-true n 10 e)) (λ e. let l = ltb-false n 10 e in more n l (by-room f (n / 10) (omega arith)))
+  by-room (suc f) n h = least-or-below 10 n (λ l. more n l (by-room f (n / 10) (omega arith))) (λ l. one n l)
 
   pub by-tens : (n : ℕ) → P n
   by-tens n = by-room (suc n) n (omega arith)
@@ -32,18 +30,12 @@ module _ (f n : ℕ) where
   in-more h = rw (le-ltb n 10 h)
 
 -- more room than is needed changes nothing
-enough : (n f g : ℕ) → n < f → n < g → digitsIn f n ≡ digitsIn g n
-enough = by-tens (λ n. (f g : ℕ) → n < f → n < g → digitsIn f n ≡ digitsIn g n) one more
-  where
-    one : (n : ℕ) → n < 10 → (f g : ℕ) → n < f → n < g → digitsIn f n ≡ digitsIn g n
-    one n l zero g h k = absurd (omega arith)
-    one n l (suc f) zero h k = absurd (omega arith)
-    one n l (suc f) (suc g) h k = in-one f n l ∙ sym (in-one g n l)
-
-    more : (n : ℕ) → 10 ≤ n → ((f g : ℕ) → n / 10 < f → n / 10 < g → digitsIn f (n / 10) ≡ digitsIn g (n / 10)) → (f g : ℕ) → n < f → n < g → digitsIn f n ≡ digitsIn g n
-    more n l i zero g h k = absurd (omega arith)
-    more n l i (suc f) zero h k = absurd (omega arith)
-    more n l i (suc f) (suc g) h k = in-more f n l ∙ rw (i f g (omega arith) (omega arith)) (sym (in-more g n l))
+enough : (f g n : ℕ) → n < f → n < g → digitsIn f n ≡ digitsIn g n
+enough zero g n h k = absurd (omega arith)
+enough (suc f) zero n h k = absurd (omega arith)
+enough (suc f) (suc g) n h k =
+    least-or-below 10 n (λ l. in-more f n l ∙ rw (enough f g (n / 10) (omega arith) (omega arith)) (sym (in-more g n l)))
+    (λ l. in-one f n l ∙ sym (in-one g n l))
 
 module _ (n : ℕ) where
   pub digits-one : n < 10 → digits n ≡ digit n ∷ []
@@ -52,7 +44,7 @@ module _ (n : ℕ) where
 
   pub digits-more : 10 ≤ n → digits n ≡ digits (n / 10) ++ (digit (n % 10) ∷ [])
   unfolding digits
-  digits-more h = in-more n n h ∙ rw (enough (n / 10) n (suc (n / 10)) (omega arith) (omega arith))
+  digits-more h = in-more n n h ∙ rw (enough n (suc (n / 10)) (n / 10) (omega arith) (omega arith))
 
   -- a tenth of it has one digit less
   pub digits-less : 10 ≤ n → length (digits n) ≡ length (digits (n / 10)) + 1
@@ -64,8 +56,8 @@ pub digits-within : (f n : ℕ) → 1 ≤ f → n < 10 ^ f → length (digits n)
 digits-within zero n l h = absurd (omega arith)
 digits-within (suc zero) n l h = rw (digits-one n (omega arith)) (omega arith)
 digits-within (suc (suc f)) n l h =
-    split (ltb n 10) (λ e. rw (digits-one n (ltb-true n 10 e)) (omega arith))
-    (λ e. let t = ltb-false n 10 e in omega (arith, digits-less n t, digits-within (suc f) (n / 10) (omega arith) (omega arith)))
+    least-or-below 10 n (λ t. omega (arith, digits-less n t, digits-within (suc f) (n / 10) (omega arith) (omega arith)))
+    (λ t. rw (digits-one n t) (omega arith))
 
 -- a number of 32 bits, and one of 64
 module _ (n : ℕ) where

@@ -47,7 +47,8 @@ module _ (l : Lexed) (f : Fed) (b : ℕ) where
 
   on-next : On l f → length (saidAll (l .rows)) < mostCounted → Follows (step l b) (fedNext f b)
   unfolding step fedNext stateNext
-  on-next o few = rw (o .mode) (on-act (action (l .mode) (class b)) o few)
+  on-next o few =
+      subst (λ (m : Mode). Follows (act (action (l .mode) (class b)) b (l .mode) (l .rows) (l .fields) (l .field)) (keptAt s (acted (action m (class b)) s b) (f .kinds) (f .events))) (sym (o .mode)) (on-act (action (l .mode) (class b)) o few)
 
   -- what has stopped stays so
   next-stopped : s .mode ≡ Broken → stateNext s b ≡ stopped s

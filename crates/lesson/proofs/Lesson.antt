@@ -39,7 +39,7 @@ use Rattle.working.proofs.Twice.{answered-at}
 use Rattle.working.proofs.Works.{said-table}
 use Rattle.listing.specs.Lines.{sectionLine}
 use Rattle.listing.specs.Listing.{lineAfter, listingOf}
-use Rattle.listing.specs.Texts.{joined}
+use Rattle.digits.specs.Texts.{joined}
 use Rattle.listing.proofs.Numbered.{eventText, sectionText, joined-same, listing-lines}
 use Rattle.lesson.specs.Lesson.{asked, onto, shown, sectionSays, takenIn, lastStamp, answerAt, eventSaid, sectionSaid, said}
 

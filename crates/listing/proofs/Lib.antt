@@ -1,7 +1,5 @@
-pub mod Value
-pub mod Stores
 pub mod Spaces
-pub mod Ended
+pub mod Refused
 pub mod Listed
 pub mod Numbered
 pub mod Sheets

@@ -1,11 +1,11 @@
 -- The lines of events and of sections, one line more at a time.
 -- Assumes nothing.
-use Prim.Native.Nat.{ℕ, suc, _+_, _-_, _*_, _≤_, _<_}
+use Prim.Native.Nat.{ℕ, suc, _+_, _<_}
 use mathlib.Core.Path.{_≡_, refl, sym, ap, _∙_}
 use mathlib.Core.List.{List, [], _∷_, _++_, append-assoc, append-nil}
 use native.Mathlib.Numerals.{add-one}
 use native.Mathlib.Omega.{arith}
-use lib.ListN.{length, getD, take, length-append}
+use lib.ListN.{length, getD, take}
 use lib.Seq.{take-suc, length-take-le}
 use Rattle.relay.specs.Posts.{at, blank}
 use Rattle.relay.specs.declared.Post.{Post}
@@ -13,7 +13,6 @@ use Rattle.sheet.specs.Entry.{numberOf, postOf, answerOf}
 use Rattle.working.specs.Working.{sectionNumbers}
 use Rattle.listing.specs.Lines.{eventLine, sectionLine}
 use Rattle.listing.specs.Listing.{eventLines, sectionLines}
-use Rattle.listing.proofs.Ended.{event-long, section-long}
 
 -- ---- events
 pub events-none : (k : ℕ) → eventLines k [] ≡ []
@@ -37,11 +36,6 @@ pub events-more : (k : ℕ) (es : List (List ℕ)) (i j : ℕ) → i < length es
 events-more k es i j h e =
     rw (add-one, take-suc es i [] h, e)
     (events-snoc k (take i es) (getD es i []) ∙ ap (λ (n : ℕ). eventLines k (take i es) ++ lineOfEvent (k + n) (getD es i [])) (length-take-le i es (omega arith)))
-
-pub events-long : (k : ℕ) (es : List (List ℕ)) → length (eventLines k es) ≤ length es * 128
-unfolding eventLines
-events-long k [] = omega arith
-events-long k (e ∷ es) = rw length-append (omega (arith, event-long k (numberOf e) (postOf e) (answerOf e), events-long (suc k) es))
 
 -- ---- sections
 abbrev pub lineOfSection : ℕ → Post → Post → List ℕ
@@ -71,14 +65,3 @@ pub sections-first : (ps : List Post) → sectionLines 0 (take 1 ps) ≡ []
 unfolding sectionLines
 sections-first [] = refl
 sections-first (p ∷ ps) = refl
-
-pub line-long : (k : ℕ) (p d : Post) → length (lineOfSection k p d) ≤ 128
-unfolding sectionNumbers
-line-long k p d = section-long (sectionNumbers k p d) (omega arith)
-
--- a line of posts has one section less than it has posts
-pub sections-long : (k : ℕ) (ps : List Post) → length (sectionLines k ps) ≤ (length ps - 1) * 128
-unfolding sectionLines
-sections-long k [] = omega arith
-sections-long k (p ∷ []) = omega arith
-sections-long k (p ∷ d ∷ ps) = rw length-append (omega (arith, line-long k p d, sections-long (suc k) (d ∷ ps)))

@@ -14,7 +14,7 @@ use Rattle.relay.specs.declared.Post.{Post}
 use Rattle.sheet.specs.Reading.{decode}
 use Rattle.working.specs.Working.{worked}
 use Rattle.listing.specs.Listing.{eventLines, sectionLines, lineAfter, answerTo, listingOf}
-use Rattle.listing.specs.Texts.{joined}
+use Rattle.digits.specs.Texts.{joined}
 use Rattle.listing.proofs.Listed.{lineOfEvent, lineOfSection, events-none, events-more, sections-first, sections-more}
 
 -- texts that are the same one by one are the same one after the other

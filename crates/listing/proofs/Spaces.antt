@@ -7,11 +7,10 @@ use native.Mathlib.Numerals.{add-one}
 use native.Mathlib.Omega.{arith}
 use lib.ListN.{length, getD, set, take, length-append}
 use lib.Seq.{take-suc}
-use Rattle.listing.specs.Digits.{digits}
+use Rattle.digits.specs.Digits.{digits}
 use Rattle.listing.specs.Lines.{space, spaced}
-use Rattle.listing.specs.Texts.{stored}
-use Rattle.listing.proofs.Value.{digits-long}
-use Rattle.listing.proofs.Stores.{stored-more, stored-then}
+use Rattle.digits.specs.Texts.{stored}
+use Rattle.digits.proofs.Stores.{stored-more, stored-then}
 
 pub spaced-none : spaced [] ≡ []
 unfolding spaced
@@ -31,14 +30,8 @@ pub spaced-more : (ns : List ℕ) (i : ℕ) → i < length ns → spaced (take (
 spaced-more ns i h =
     rw (add-one, take-suc ns i 0 h, spaced-append, spaced-one) (sym (append-assoc (spaced (take i ns)) (space ∷ []) (digits (getD ns i 0))))
 
--- each takes at most eleven bytes
-pub spaced-long : (ns : List ℕ) → length (spaced ns) ≤ length ns * 11
-unfolding spaced
-spaced-long [] = omega arith
-spaced-long (n ∷ ns) = rw length-append (omega (arith, digits-long n, spaced-long ns))
-
 -- ---- a turn of the loop that puts them
-module _ (d ns : List ℕ) (at i : ℕ) (less : i < length ns) (room : at + length ns * 11 ≤ length d) (short : length (spaced (take i ns)) ≤ i * 11) where
+module _ (d ns : List ℕ) (at i : ℕ) (less : i < length ns) (room : at + length ns * 11 ≤ length d) (short : length (spaced (take i ns)) ≤ i * 11) (few : length (digits (getD ns i 0)) ≤ 10) where
   abbrev so-far : List ℕ
   so-far = spaced (take i ns)
 
@@ -52,11 +45,11 @@ module _ (d ns : List ℕ) (at i : ℕ) (less : i < length ns) (room : at + leng
   turn-long = ap (λ (xs : List ℕ). length xs) (spaced-more ns i less) ∙ rw (length-append, length-append) refl
 
   pub turn-short : length (spaced (take (i + 1) ns)) ≤ (i + 1) * 11
-  turn-short = omega (arith, turn-long, digits-long n)
+  turn-short = omega (arith, turn-long)
 
   pub turn : stored (set (stored d at so-far) p space) (p + 1) (digits n) ≡ stored d at (spaced (take (i + 1) ns))
   turn =
       let k : p + 1 ≡ at + length (so-far ++ (space ∷ [])) = rw length-append (omega arith) in
-      let fits : at + length (so-far ++ (space ∷ [])) + length (digits n) ≤ length d = omega (arith, k, digits-long n) in
-      rw (stored-more d at so-far space (omega (arith, digits-long n)), k)
+      let fits : at + length (so-far ++ (space ∷ [])) + length (digits n) ≤ length d = omega (arith, k) in
+      rw (stored-more d at so-far space (omega arith), k)
       (stored-then d at (so-far ++ (space ∷ [])) (digits n) fits ∙ ap (stored d at) (sym (spaced-more ns i less)))

@@ -1,4 +1,2 @@
-pub mod Texts
-pub mod Digits
 pub mod Lines
 pub mod Listing

@@ -4,8 +4,8 @@ use Prim.Native.Nat.{ℕ}
 use mathlib.Core.Path.{_≡_}
 use mathlib.Core.List.{List, [], _∷_, _++_}
 use lib.ListN.{length}
-use Rattle.listing.specs.Digits.{digits}
-use Rattle.listing.specs.Texts.{stored}
+use Rattle.digits.specs.Digits.{digits}
+use Rattle.digits.specs.Texts.{stored}
 
 abbrev pub space : ℕ
 space = 32
@@ -35,9 +35,9 @@ eventLine position event post answer = line (digits position) (event ∷ post �
 unfoldable pub sectionLine : List ℕ → List ℕ
 sectionLine ns = line (83 ∷ []) ns
 
--- '"refused", its number and the block'
+-- '"refused", its number and the block', or another place
 unfoldable pub refusedLine : ℕ → ℕ → List ℕ
-refusedLine number block = line (114 ∷ 101 ∷ 102 ∷ 117 ∷ 115 ∷ 101 ∷ 100 ∷ []) (number ∷ block ∷ [])
+refusedLine number place = line (114 ∷ 101 ∷ 102 ∷ 117 ∷ 115 ∷ 101 ∷ 100 ∷ []) (number ∷ place ∷ [])
 
 -- what a call that puts a text states: r is its length, and it stands at the front of the lent bytes; what stands past it stays
 abbrev pub Lined : List ℕ → ℕ → List ℕ → List ℕ → Type 0

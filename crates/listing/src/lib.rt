@@ -2,10 +2,9 @@
 ghost use Prim.Native.Nat.{_+_, _*_, _≤_};
 ghost use lib.ListN.{length};
 ghost use Rattle.row.specs.Row.{lineOf};
-ghost use Rattle.listing.specs.Digits.{digits};
 ghost use Rattle.listing.specs.Lines.{ended, eventLine, sectionLine, refusedLine, Lined};
 ghost use Rattle.listing.specs.Listing.{eventLines, sectionLines, listingOf};
-ghost use Rattle.listing.specs.Texts.{Put};
+ghost use Rattle.digits.specs.Texts.{Put};
 use row::Row;
 use sheet::layout::MOST_BYTES;
 use sheet::layout::MOST_ENTRIES;
@@ -16,30 +15,17 @@ pub const LINE: usize = 128;
 // Room for any listing: a line for each of 3,780 events and 31 sections.
 pub const PAGE: usize = (MOST_ENTRIES + 31) * LINE;
 
-// The digits of `n` from `at` on; the place past them.
-fn put_number(out: &mut [u8], at: usize, n: u32) -> usize
-    requires { ⌜ at + 10 ≤ length (now out) ⌝ }
-    ensures { λ r. ⌜ Put (digits n) at r (now (out .entry)) (now (out .exit)) ⌝ }
-{
-    if n < 10 {
-        out[at] = 48 + n as u8;
-        return at + 1;
-    }
-    let p = put_number(out, at, n / 10);
-    out[p] = 48 + (n % 10) as u8;
-    p + 1
-}
-
 // Each number after a single space, from `at` on, and the line feed; the place past it.
 fn put_rest(out: &mut [u8], at: usize, ns: &[u32]) -> usize
     requires { ⌜ (length (now ns) ≤ 10) × (at + length (now ns) * 11 + 1 ≤ length (now out)) ⌝ }
-    ensures { λ r. ⌜ Put (ended (now (ns .entry))) at r (now (out .entry)) (now (out .exit)) ⌝ }
+    ensures put { λ r. ⌜ Put (ended (now (ns .entry))) at r (now (out .entry)) (now (out .exit)) ⌝ }
+    ensures short { λ r. ⌜ r ≤ at + length (now (ns .entry)) * 11 + 1 ⌝ }
 {
     let mut p = at;
     let mut i: usize = 0;
     while i < ns.len() {
         out[p] = 32;
-        p = put_number(out, p + 1, ns[i]);
+        p = digits::put_number(out, p + 1, ns[i] as u64);
         i += 1;
     }
     out[p] = 10;
@@ -49,28 +35,29 @@ fn put_rest(out: &mut [u8], at: usize, ns: &[u32]) -> usize
 // 'position from 1, event, post, answer', from `at` on; the place past the line.
 fn put_event(out: &mut [u8], at: usize, position: u32, event: u32, post: u32, answer: u32) -> usize
     requires { ⌜ at + 128 ≤ length (now out) ⌝ }
-    ensures { λ r. ⌜ Put (eventLine position event post answer) at r (now (out .entry)) (now (out .exit)) ⌝ }
+    ensures put { λ r. ⌜ Put (eventLine position event post answer) at r (now (out .entry)) (now (out .exit)) ⌝ }
+    ensures short { λ r. ⌜ r ≤ at + 128 ⌝ }
 {
     let ns = [event, post, answer];
-    let p = put_number(out, at, position);
+    let p = digits::put_number(out, at, position as u64);
     put_rest(out, p, &ns)
 }
 
 // 'S, section, a, r, x, q, e, y, v, g, h', the section and its nine numbers, from `at` on; the place past the line.
 fn put_section(out: &mut [u8], at: usize, numbers: [u32; 10]) -> usize
     requires { ⌜ at + 128 ≤ length (now out) ⌝ }
-    ensures { λ r. ⌜ Put (sectionLine numbers) at r (now (out .entry)) (now (out .exit)) ⌝ }
+    ensures put { λ r. ⌜ Put (sectionLine numbers) at r (now (out .entry)) (now (out .exit)) ⌝ }
+    ensures short { λ r. ⌜ r ≤ at + 128 ⌝ }
 {
     out[at] = 83;
     put_rest(out, at + 1, &numbers)
 }
 
-// '"refused", its number and the block', at the front; how long the line is.
-fn put_refused(out: &mut [u8], number: u32, block: u32) -> usize
+// '"refused", its number and the block', or another place, at the front; how long the line is.
+fn put_refused(out: &mut [u8], number: u32, place: u64) -> usize
     requires { ⌜ 128 ≤ length (now out) ⌝ }
-    ensures { λ r. ⌜ Lined (refusedLine number block) r (now (out .entry)) (now (out .exit)) ⌝ }
+    ensures { λ r. ⌜ Lined (refusedLine number place) r (now (out .entry)) (now (out .exit)) ⌝ }
 {
-    let ns = [number, block];
     out[0] = 114;
     out[1] = 101;
     out[2] = 102;
@@ -78,13 +65,19 @@ fn put_refused(out: &mut [u8], number: u32, block: u32) -> usize
     out[4] = 115;
     out[5] = 101;
     out[6] = 100;
-    put_rest(out, 7, &ns)
+    out[7] = 32;
+    let p = digits::put_number(out, 8, number as u64);
+    out[p] = 32;
+    let q = digits::put_number(out, p + 1, place);
+    out[q] = 10;
+    q + 1
 }
 
 // One line for each event, at the front; how long they are.
 fn put_events(out: &mut [u8], events: &[[u32; 4]]) -> usize
     requires { ⌜ (length (now events) ≤ 3780) × (length (now events) * 128 ≤ length (now out)) ⌝ }
-    ensures { λ r. ⌜ Lined (eventLines 1 (now (events .entry))) r (now (out .entry)) (now (out .exit)) ⌝ }
+    ensures put { λ r. ⌜ Lined (eventLines 1 (now (events .entry))) r (now (out .entry)) (now (out .exit)) ⌝ }
+    ensures short { λ r. ⌜ r ≤ length (now (events .entry)) * 128 ⌝ }
 {
     let n = events.len() as u32;
     let mut p: usize = 0;
@@ -102,7 +95,8 @@ fn put_events(out: &mut [u8], events: &[[u32; 4]]) -> usize
 // One line for each section, from `at` on; the place past them.
 fn put_sections(out: &mut [u8], at: usize, row: Row) -> usize
     requires { ⌜ (row .n ≤ 32) × (at + 31 * 128 ≤ length (now out)) ⌝ }
-    ensures { λ r. ⌜ Put (sectionLines 0 (lineOf row)) at r (now (out .entry)) (now (out .exit)) ⌝ }
+    ensures put { λ r. ⌜ Put (sectionLines 0 (lineOf row)) at r (now (out .entry)) (now (out .exit)) ⌝ }
+    ensures short { λ r. ⌜ r ≤ at + 31 * 128 ⌝ }
 {
     let posts = row.posts;
     let n = row.n;
@@ -133,10 +127,10 @@ pub fn section_line(out: &mut [u8; LINE], numbers: [u32; 10]) -> usize
 }
 
 // A refusal's.
-pub fn refused_line(out: &mut [u8; LINE], number: u32, block: u32) -> usize
-    ensures { λ r. ⌜ Lined (refusedLine number block) r (now (out .entry)) (now (out .exit)) ⌝ }
+pub fn refused_line(out: &mut [u8; LINE], number: u32, place: u64) -> usize
+    ensures { λ r. ⌜ Lined (refusedLine number place) r (now (out .entry)) (now (out .exit)) ⌝ }
 {
-    put_refused(out, number, block)
+    put_refused(out, number, place)
 }
 
 // Works the sheet and puts its listing at the front of the page; how long it is.
@@ -146,7 +140,7 @@ pub fn list(s: &[u8], page: &mut [u8; PAGE]) -> usize
     let mut out = [0u8; MOST_BYTES];
     let done = working::work(s, &mut out);
     if done.number != 0 {
-        return put_refused(page, done.number, done.block);
+        return put_refused(page, done.number, done.block as u64);
     }
     let n = s.len();
     let mut kinds = [0u32; 32];

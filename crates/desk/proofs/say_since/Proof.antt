@@ -2,7 +2,7 @@
 use mathlib.Core.Path.{sym}
 use borrow.Author.Needs.{needs}
 use lib.Seq.{length-take-le}
-use Rattle.listing.proofs.Stores.{text-within}
+use Rattle.digits.proofs.Stores.{text-within}
 use Rattle.desk.proofs.say_since.Statement.{statement}
 use Rattle.desk.proofs.say_since.Tie as tie
 

@@ -32,6 +32,9 @@ slice-aggregate-work-2 c = search needs
 work-requires : tie.Need-work-requires
 work-requires c κs = search needs
 
+cast-tell-refused : tie.Need-cast-tell-refused
+cast-tell-refused c = search needs
+
 tell-refused-requires : tie.Need-tell-refused-requires
 tell-refused-requires c κs = search needs
 
@@ -65,6 +68,7 @@ work-sheet-spec =
     slice-aggregate-work
     slice-aggregate-work-2
     work-requires
+    cast-tell-refused
     tell-refused-requires
     returns-2
     array-share-prefix-out

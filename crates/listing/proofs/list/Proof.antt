@@ -4,7 +4,7 @@ use Prim.Native.Nat.{_+_, _≤_}
 use mathlib.Core.Path.{_≡_, sym, _∙_}
 use native.Mathlib.Omega.{arith}
 use borrow.Author.Needs.{needs}
-use lib.ListN.{length, take}
+use lib.ListN.{length}
 use lib.Seq.{length-take-le}
 use Rattle.row.proofs.Held.{held-line}
 use Rattle.row.specs.Row.{lineOf}
@@ -13,10 +13,9 @@ use Rattle.sheet.proofs.Rooms.{not-long}
 use Rattle.sheet.specs.Reading.{decode}
 use Rattle.working.specs.Working.{worked}
 use Rattle.listing.specs.Listing.{eventLines, sectionLines, lineAfter, listingOf}
-use Rattle.listing.specs.Texts.{stored}
-use Rattle.listing.proofs.Listed.{events-long, sections-long}
+use Rattle.digits.specs.Texts.{stored}
 use Rattle.listing.proofs.Sheets.{Done, listing-refused, listing-worked, line-few, row-few, Again, read-again}
-use Rattle.listing.proofs.Stores.{next-stands, next-place}
+use Rattle.digits.proofs.Stores.{next-stands, next-place}
 use Rattle.listing.proofs.list.Statement.{statement}
 use Rattle.listing.proofs.list.Tie as tie
 
@@ -37,13 +36,16 @@ done c = listing-worked (c .before .before .before .before .before .before .args
 work-requires : tie.Need-work-requires
 work-requires c κs = search needs
 
+cast-put-refused : tie.Need-cast-put-refused
+cast-put-refused c = search needs
+
 put-refused-requires : tie.Need-put-refused-requires
 put-refused-requires c κs = search needs
 
 returns : tie.Need-returns
 returns c =
-    let w = c .before .before .before .before .before in
-    rw (listing-refused (w .before .before .before .args .s .now) _ (sym (slice-aggregate-work (w .before))) (w .work .result) (w .work .last .1 .0) (w .work .ensures) (c .before .before .if1 .taken)) (c .put-refused .ensures)
+    let w = c .before .before .before .before .before .before in
+    rw (listing-refused (w .before .before .before .args .s .now) _ (sym (slice-aggregate-work (w .before))) (w .work .result) (w .work .last .1 .0) (w .work .ensures) (c .before .before .before .if1 .taken)) (c .put-refused .ensures)
 
 array-share-prefix-out : tie.Need-array-share-prefix-out
 array-share-prefix-out c = omega (arith, not-long (c .before .before .before .before .before .before .args .s .now) (done c .accepted), slice-aggregate-work (c .before .before .before .before), c .before .before .before .work .kept .1 .0)
@@ -86,7 +88,7 @@ used : (c : tie.After-put-events) → c .put-events .result ≤ 483840
 used c =
     let e = slice-aggregate-put-events (c .before) in
     let few = again (c .before .before .before .before .before .before) .few in
-    omega (arith, c .put-events .ensures .0, events-long 1 (take (c .before .before .before .before .before .before .read .result .events) (c .before .before .before .before .before .before .read .last .1 .1 .0)))
+    omega (arith, c .put-events .ensures .1)
 
 put-sections-requires : tie.Need-put-sections-requires
 put-sections-requires c κs =
@@ -103,12 +105,12 @@ returns-2 c =
     let few = line-few s (d .accepted) in
     let events = again (c .before .before .before .before .before .before .before .before .before) .events in
     let line : lineOf (c .before .before .before .before .before .before .before .before .before .before .before .before .before .before .before .before .work .result .row) ≡ lineAfter (decode s) = rw (d .row) (held-line (lineAfter (decode s)) few) in
-    let stands : p .last .0 ≡ stored (a .page .now) 0 (eventLines 1 (worked (decode s) .events)) = rw events at (p .ensures .1) in
-    let place : p .result ≡ 0 + length (eventLines 1 (worked (decode s) .events)) = omega (arith, rw events at (p .ensures .0)) in
+    let stands : p .last .0 ≡ stored (a .page .now) 0 (eventLines 1 (worked (decode s) .events)) = rw events at (p .ensures .0 .1) in
+    let place : p .result ≡ 0 + length (eventLines 1 (worked (decode s) .events)) = omega (arith, rw events at (p .ensures .0 .0)) in
     let fits : p .result + length (sectionLines 0 (lineAfter (decode s))) ≤ length (a .page .now) =
-    omega (arith, used (c .before .before .before), sections-long 0 (lineAfter (decode s)), page-long (c .before .before .before .before .before)) in (
-      omega (arith, rw line at (r .0), next-place (a .page .now) (p .last .0) _ _ (listingOf s) 0 (p .result) stands place (d .listing) fits),
-      (rw line at (r .1)) ∙ next-stands (a .page .now) (p .last .0) _ _ (listingOf s) 0 (p .result) stands place (d .listing) fits,
+    omega (arith, r .1, rw line at (r .0 .0), used (c .before .before .before), page-long (c .before .before .before .before .before)) in (
+      omega (arith, rw line at (r .0 .0), next-place (a .page .now) (p .last .0) _ _ (listingOf s) 0 (p .result) stands place (d .listing) fits),
+      (rw line at (r .0 .1)) ∙ next-stands (a .page .now) (p .last .0) _ _ (listingOf s) 0 (p .result) stands place (d .listing) fits,
     )
 
 pub list-spec : {M : Type 1} → statement M
@@ -117,6 +119,7 @@ list-spec =
     (tie.spec
     slice-aggregate-work
     work-requires
+    cast-put-refused
     put-refused-requires
     returns
     array-share-prefix-out

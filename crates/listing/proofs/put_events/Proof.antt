@@ -1,18 +1,16 @@
 -- `listing::put_events` meets its contract: the lines of the events so far stand at the front.
 -- Assumes nothing.
 use Prim.Native.Nat.{_+_, _-_, _*_, _≤_}
-use mathlib.Core.Path.{_≡_, refl, sym, _∙_}
+use mathlib.Core.Path.{_≡_, refl, sym}
 use mathlib.Core.List.{[]}
 use native.Mathlib.Omega.{arith}
 use borrow.Author.Needs.{needs}
 use lib.ListN.{length, getD, take}
 use lib.Seq.{take-all}
-use Rattle.sheet.specs.Entry.{numberOf, postOf, answerOf}
 use Rattle.listing.specs.Listing.{eventLines}
-use Rattle.listing.specs.Texts.{stored}
-use Rattle.listing.proofs.Ended.{event-long}
+use Rattle.digits.specs.Texts.{stored}
 use Rattle.listing.proofs.Listed.{lineOfEvent, events-none, events-more}
-use Rattle.listing.proofs.Stores.{stored-none, next-stands, next-place}
+use Rattle.digits.proofs.Stores.{stored-none, next-stands, next-place}
 use Rattle.listing.proofs.put_events.Statement.{statement}
 use Rattle.listing.proofs.put_events.Tie as tie
 
@@ -69,14 +67,13 @@ loop-again c =
     let k = l .loop .position in
     let e = getD (a .events .now) i [] in
     let r = c .before .before .put-event .ensures in
-    let few = event-long k (numberOf e) (postOf e) (answerOf e) in
     let more = events-more 1 (a .events .now) i k (omega arith) (l .loop .inv .5) in
-    let fits : l .loop .p + length (lineOfEvent k e) ≤ length (a .out .now) = omega arith in (
+    let fits : l .loop .p + length (lineOfEvent k e) ≤ length (a .out .now) = omega (arith, r .0 .0, r .1) in (
       omega arith,
-      rw (r .0) (next-place (a .out .now) (l .loop .out) _ _ _ 0 (l .loop .p) (l .loop .inv .4) (l .loop .inv .1) more fits),
-      omega (arith, r .0),
+      rw (r .0 .0) (next-place (a .out .now) (l .loop .out) _ _ _ 0 (l .loop .p) (l .loop .inv .4) (l .loop .inv .1) more fits),
+      omega (arith, r .1),
       search needs,
-      rw (r .1) (next-stands (a .out .now) (l .loop .out) _ _ _ 0 (l .loop .p) (l .loop .inv .4) (l .loop .inv .1) more fits),
+      rw (r .0 .1) (next-stands (a .out .now) (l .loop .out) _ _ _ 0 (l .loop .p) (l .loop .inv .4) (l .loop .inv .1) more fits),
       omega arith,
     )
 
@@ -88,7 +85,7 @@ returns c =
     let l = c .before in
     let a = l .before .before .args in
     let all : take (l .loop .i) (a .events .now) ≡ a .events .now = take-all (l .loop .i) (a .events .now) (omega arith) in
-    (omega (arith, rw all at (l .loop .inv .1)), rw all at (l .loop .inv .4))
+    ((omega (arith, rw all at (l .loop .inv .1)), rw all at (l .loop .inv .4)), omega arith)
 
 pub put-events-spec : {M : Type 1} → statement M
 put-events-spec =

@@ -1,16 +1,27 @@
--- `listing::put_refused` meets its contract: the word, and the rest of the line after it.
+-- `listing::put_refused` meets its contract: the word, the number, a space, the place and the line feed, each right after what stands.
 -- Assumes nothing.
-use Prim.Native.Nat.{_+_, _≤_}
-use mathlib.Core.Path.{_≡_, refl, _∙_}
-use mathlib.Core.List.{[], _∷_}
+use Prim.Native.Nat.{ℕ, _+_, _≤_}
+use mathlib.Core.Path.{refl, ap, _∙_}
+use mathlib.Core.List.{List, [], _∷_, _++_}
 use native.Mathlib.Omega.{arith}
 use borrow.Author.Needs.{needs}
-use lib.ListN.{length, length-set}
-use Rattle.listing.specs.Lines.{ended, refusedLine}
-use Rattle.listing.proofs.Ended.{ended-long, refused, refused-put}
-use Rattle.listing.proofs.Stores.{next-stands}
+use lib.ListN.{length, length-append, length-set}
+use Rattle.digits.specs.Digits.{digits}
+use Rattle.digits.specs.Texts.{stored, Put}
+use Rattle.digits.proofs.Value.{digits-long, digits-long-64}
+use Rattle.digits.proofs.Stores.{put-length, put-byte, put-then}
+use Rattle.listing.specs.Lines.{space, lineFeed}
+use Rattle.listing.proofs.Refused.{refused, refused-put, refused-pieces}
 use Rattle.listing.proofs.put_refused.Statement.{statement}
 use Rattle.listing.proofs.put_refused.Tie as tie
+
+-- ---- the two numbers, and how long they are
+module _ (s : tie.Start) where
+  number-long : length (digits (s .args .number)) ≤ 10
+  number-long = digits-long (s .args .number) (omega arith)
+
+  place-long : length (digits (s .args .place)) ≤ 20
+  place-long = digits-long-64 (s .args .place) (omega arith)
 
 slice-write-out : tie.Need-slice-write-out
 slice-write-out c = search needs
@@ -33,23 +44,73 @@ slice-write-out-6 c = simp length-set (omega arith)
 slice-write-out-7 : tie.Need-slice-write-out-7
 slice-write-out-7 c = simp length-set (omega arith)
 
-slice-aggregate-put-rest : tie.Need-slice-aggregate-put-rest
-slice-aggregate-put-rest c = search needs
+slice-write-out-8 : tie.Need-slice-write-out-8
+slice-write-out-8 c = simp length-set (omega arith)
 
-put-rest-requires : tie.Need-put-rest-requires
-put-rest-requires c κs = (omega arith, simp length-set (omega arith))
+put-number-requires : tie.Need-put-number-requires
+put-number-requires c κs = simp length-set (omega (arith, number-long (c .before .before)))
+
+-- the word and the number stand
+first : (c : tie.After-put-number) → let a = c .before .before .before .args in Put (refused ++ digits (a .number)) 0 (c .put-number .result) (a .out .now) (c .put-number .last .0)
+first c =
+    let s = c .before .before .before in
+    let d = s .args .out .now in
+    put-then d _ refused 0 8 (refl, refused-put d (omega arith)) (digits (s .args .number)) _ _ (omega (arith, number-long s)) (c .put-number .ensures)
+
+slice-write-out-9 : tie.Need-slice-write-out-9
+slice-write-out-9 c =
+    let s = c .before .before .before .before .before in
+    omega (arith, number-long s, first (c .before .before) .0, put-length _ _ _ 0 _ (first (c .before .before)) (omega (arith, number-long s)))
+
+add-put-number : tie.Need-add-put-number
+add-put-number c =
+    let s = c .before .before .before .before .before .before in
+    let p = first (c .before .before .before) .0 in
+    let l = number-long s in
+    search needs
+
+put-number-requires-2 : tie.Need-put-number-requires-2
+put-number-requires-2 c κs =
+    let s = c .before .before .before .before .before .before in
+    let f = first (c .before .before .before) in
+    simp length-set (omega (arith, number-long s, place-long s, f .0, put-length _ _ _ 0 _ f (omega (arith, number-long s))))
+
+-- and the space and the place
+second : (c : tie.After-put-number2) → let a = c .before .before .before .before .before .before .before .args in Put (((refused ++ digits (a .number)) ++ (space ∷ [])) ++ digits (a .place)) 0 (c .put-number2 .result) (a .out .now) (c .put-number2 .last .0)
+second c =
+    let s = c .before .before .before .before .before .before .before in
+    let d = s .args .out .now in
+    let f = first (c .before .before .before .before) in
+    put-then d _ ((refused ++ digits (s .args .number)) ++ (space ∷ [])) 0 _ (put-byte d _ _ 0 _ f space (omega (arith, number-long s))) (digits (s .args .place)) _ _ (simp length-append (omega (arith, number-long s, place-long s))) (c .put-number2 .ensures)
+
+-- all of which fits
+fits : (s : tie.Start) → let a = s .args in 0 + length (((refused ++ digits (a .number)) ++ (space ∷ [])) ++ digits (a .place)) ≤ 39
+fits s = simp length-append (omega (arith, number-long s, place-long s))
+
+slice-write-out-10 : tie.Need-slice-write-out-10
+slice-write-out-10 c =
+    let l = fits (c .before .before .before .before .before .before .before .before .before) in
+    let f = second (c .before .before) in
+    omega (arith, f .0, put-length _ _ _ 0 _ f (omega arith))
+
+add-result : tie.Need-add-result
+add-result c =
+    let l = fits (c .before .before .before .before .before .before .before .before .before) in
+    let p = second (c .before .before) .0 in
+    search needs
 
 same-length : tie.Need-same-length
-same-length c = simp length-set at (c .before .before .put-rest .kept .0)
+same-length c =
+    let l = fits (c .before .before .before .before .before .before .before .before .before) in
+    simp length-set (put-length _ _ _ 0 _ (second (c .before .before)) (omega arith))
 
 returns : tie.Need-returns
-unfolding refusedLine
 returns c =
-    let a = c .before .before .before .before .before .before .args in
-    let r = c .before .before .put-rest .ensures in
-    let ns = a .number ∷ a .block ∷ [] in
-    let fits : 7 + length (ended ns) ≤ length (a .out .now) = omega (arith, ended-long ns) in
-    (omega (arith, r .0), r .1 ∙ next-stands (a .out .now) _ refused (ended ns) (refusedLine (a .number) (a .block)) 0 7 (refused-put (a .out .now) (omega arith)) refl refl fits)
+    let a = c .before .before .before .before .before .before .before .before .before .args in
+    let l = fits (c .before .before .before .before .before .before .before .before .before) in
+    let w = put-byte (a .out .now) _ _ 0 _ (second (c .before .before)) lineFeed (omega arith) in
+    let e = refused-pieces (a .number) (a .place) in
+    (omega (arith, w .0, ap (λ (t : List ℕ). length t) e), w .1 ∙ ap (stored (a .out .now) 0) e)
 
 pub put-refused-spec : {M : Type 1} → statement M
 put-refused-spec =
@@ -62,7 +123,12 @@ put-refused-spec =
     slice-write-out-5
     slice-write-out-6
     slice-write-out-7
-    slice-aggregate-put-rest
-    put-rest-requires
+    slice-write-out-8
+    put-number-requires
+    slice-write-out-9
+    add-put-number
+    put-number-requires-2
+    slice-write-out-10
+    add-result
     same-length
     returns)

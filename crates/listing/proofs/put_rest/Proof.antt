@@ -5,11 +5,13 @@ use mathlib.Core.Path.{_≡_, refl, sym, ap, _∙_}
 use mathlib.Core.List.{List}
 use native.Mathlib.Omega.{arith}
 use borrow.Author.Needs.{needs}
-use lib.ListN.{length, take, length-append, length-set}
+use lib.ListN.{length, getD, take, length-append, length-set}
 use lib.Seq.{take-all}
+use Rattle.digits.specs.Digits.{digits}
+use Rattle.digits.specs.Texts.{stored}
+use Rattle.digits.proofs.Value.{digits-long}
+use Rattle.digits.proofs.Stores.{stored-none, stored-more, length-stored}
 use Rattle.listing.specs.Lines.{spaced, lineFeed}
-use Rattle.listing.specs.Texts.{stored}
-use Rattle.listing.proofs.Stores.{stored-none, stored-more, length-stored}
 use Rattle.listing.proofs.Spaces.{spaced-none, turn, turn-long, turn-short}
 use Rattle.listing.proofs.put_rest.Statement.{statement}
 use Rattle.listing.proofs.put_rest.Tie as tie
@@ -40,8 +42,15 @@ mul-put-number c = search needs
 shared-slice-read-put-number : tie.Need-shared-slice-read-put-number Inv-loop μ-loop
 shared-slice-read-put-number c = search needs
 
+-- a number of 32 bits has at most ten digits
+few : (c : tie.After-shared-slice-known2 Inv-loop μ-loop) → let l = c .before .before .before in length (digits (getD (l .before .before .before .args .ns .now) (l .loop .i) 0)) ≤ 10
+few c = digits-long _ (omega (arith, c .shared-slice-known2 .given (c .before .before .before .loop .i)))
+
+cast-put-number : tie.Need-cast-put-number Inv-loop μ-loop
+cast-put-number c = omega (arith, c .shared-slice-known2 .given (c .before .before .before .loop .i))
+
 put-number-requires : tie.Need-put-number-requires Inv-loop μ-loop
-put-number-requires c κs = simp length-set (omega arith)
+put-number-requires c κs = simp length-set (omega (arith, few c))
 
 add-i : tie.Need-add-i Inv-loop μ-loop
 add-i c = search needs
@@ -53,12 +62,13 @@ loop-again : tie.Need-loop-again Inv-loop μ-loop
 loop-again c =
     let l = c .before .before .before .before .before .before in
     let a = l .before .before .before .args in
+    let t = few (c .before .before .before) in
     let e = c .before .before .put-number .ensures in
     let r : a .at + length (a .ns .now) * 11 ≤ length (a .out .now) = omega arith in
-    let long = turn-long (a .out .now) (a .ns .now) (a .at) (l .loop .i) (omega arith) r (l .loop .inv .2) in
-    let short = turn-short (a .out .now) (a .ns .now) (a .at) (l .loop .i) (omega arith) r (l .loop .inv .2) in
+    let long = turn-long (a .out .now) (a .ns .now) (a .at) (l .loop .i) (omega arith) r (l .loop .inv .2) t in
+    let short = turn-short (a .out .now) (a .ns .now) (a .at) (l .loop .i) (omega arith) r (l .loop .inv .2) t in
     let same : c .before .before .put-number .last .0 ≡ stored (a .out .now) (a .at) (spaced (take (l .loop .i + 1) (a .ns .now))) =
-    e .1 ∙ rw (l .loop .inv .4, l .loop .inv .1) (turn (a .out .now) (a .ns .now) (a .at) (l .loop .i) (omega arith) r (l .loop .inv .2)) in
+    e .1 ∙ rw (l .loop .inv .4, l .loop .inv .1) (turn (a .out .now) (a .ns .now) (a .at) (l .loop .i) (omega arith) r (l .loop .inv .2) t) in
     (omega arith, omega (arith, e .0), short, ap (λ (xs : List ℕ). length xs) same ∙ length-stored (a .out .now) (a .at) _ (omega (arith, short)), same)
 
 slice-write-out-2 : tie.Need-slice-write-out-2 Inv-loop μ-loop
@@ -77,7 +87,7 @@ returns c =
     let all : take (l .loop .i) (a .ns .now) ≡ a .ns .now = take-all (l .loop .i) (a .ns .now) (omega arith) in
     let p : l .loop .p ≡ a .at + length (spaced (a .ns .now)) = rw all at (l .loop .inv .1) in
     let e : l .loop .out ≡ stored (a .out .now) (a .at) (spaced (a .ns .now)) = rw all at (l .loop .inv .4) in
-    (rw length-append (omega (arith, p)), rw (e, p) (stored-more (a .out .now) (a .at) (spaced (a .ns .now)) lineFeed (omega (arith, p, l .loop .inv .3))))
+    ((rw length-append (omega (arith, p)), rw (e, p) (stored-more (a .out .now) (a .at) (spaced (a .ns .now)) lineFeed (omega (arith, p, l .loop .inv .3)))), omega arith)
 
 pub put-rest-spec : {M : Type 1} → statement M
 put-rest-spec =
@@ -90,6 +100,7 @@ put-rest-spec =
     add-put-number
     mul-put-number
     shared-slice-read-put-number
+    cast-put-number
     put-number-requires
     add-i
     loop-less

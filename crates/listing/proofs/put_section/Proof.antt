@@ -1,14 +1,12 @@
 -- `listing::put_section` meets its contract: the letter, and the rest of the line after it.
 -- Assumes nothing.
-use Prim.Native.Nat.{_+_, _≤_}
-use mathlib.Core.Path.{_≡_, refl, _∙_}
+use mathlib.Core.Path.{_≡_, refl}
 use mathlib.Core.List.{[], _∷_}
 use native.Mathlib.Omega.{arith}
 use borrow.Author.Needs.{needs}
 use lib.ListN.{length, length-set}
+use Rattle.digits.proofs.Stores.{put-one, put-then}
 use Rattle.listing.specs.Lines.{ended, sectionLine}
-use Rattle.listing.proofs.Ended.{ended-long}
-use Rattle.listing.proofs.Stores.{put-one, next-stands, next-place}
 use Rattle.listing.proofs.put_section.Statement.{statement}
 use Rattle.listing.proofs.put_section.Tie as tie
 
@@ -37,8 +35,8 @@ returns c =
     let s = c .before .before .before .before .before .before in
     let a = s .args in
     let r = c .before .before .put-rest .ensures in
-    let fits : a .at + 1 + length (ended (a .t3)) ≤ length (a .out .now) = omega (arith, ten s, ended-long (a .t3)) in
-    (r .0 ∙ next-place (a .out .now) _ (83 ∷ []) (ended (a .t3)) (sectionLine (a .t3)) (a .at) _ refl refl refl fits, r .1 ∙ next-stands (a .out .now) _ (83 ∷ []) (ended (a .t3)) (sectionLine (a .t3)) (a .at) _ (put-one (a .out .now) (a .at) 83 (omega arith)) refl refl fits)
+    let t = ten s in
+    (put-then (a .out .now) _ (83 ∷ []) (a .at) _ (refl, put-one (a .out .now) (a .at) 83 (omega arith)) (ended (a .t3)) _ _ (omega (arith, r .0 .0)) (r .0), omega (arith, r .1))
 
 pub put-section-spec : {M : Type 1} → statement M
 put-section-spec =

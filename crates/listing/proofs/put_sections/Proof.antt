@@ -10,9 +10,9 @@ use Rattle.relay.specs.Posts.{at}
 use Rattle.row.proofs.Part.{line-is, at-part}
 use Rattle.working.specs.Working.{sectionNumbers}
 use Rattle.listing.specs.Listing.{sectionLines}
-use Rattle.listing.specs.Texts.{stored}
-use Rattle.listing.proofs.Listed.{lineOfSection, sections-first, sections-more, line-long}
-use Rattle.listing.proofs.Stores.{stored-none, next-stands, next-place}
+use Rattle.digits.specs.Texts.{stored}
+use Rattle.listing.proofs.Listed.{lineOfSection, sections-first, sections-more}
+use Rattle.digits.proofs.Stores.{stored-none, next-stands, next-place}
 use Rattle.listing.proofs.put_sections.Statement.{statement}
 use Rattle.listing.proofs.put_sections.Tie as tie
 
@@ -78,15 +78,14 @@ loop-again c =
     let numbers : c .before .before .before .before .section .result ≡ sectionNumbers i (at ln i) (at ln j) =
     c .before .before .before .before .section .ensures ∙ rw (at-part ps n h i (omega arith), at-part ps n h j less) in
     let r = c .before .before .put-section .ensures in
-    let few = line-long i (at ln i) (at ln j) in
     let more = sections-more ln i j (l .loop .inv .5) (rw (length-take-le n ps h) less) in
-    let fits : l .loop .p + length u ≤ length (a .out .now) = omega arith in
-    let r0 = rw numbers at (r .0) in (
+    let r0 = rw numbers at (r .0 .0) in
+    let fits : l .loop .p + length u ≤ length (a .out .now) = omega (arith, r0, r .1) in (
       omega arith,
       r0 ∙ next-place (a .out .now) (l .loop .out) _ u _ (a .at) (l .loop .p) (l .loop .inv .4) (l .loop .inv .1) more fits,
-      omega (arith, r0),
+      omega (arith, r .1),
       search needs,
-      (rw numbers at (r .1)) ∙ next-stands (a .out .now) (l .loop .out) _ u _ (a .at) (l .loop .p) (l .loop .inv .4) (l .loop .inv .1) more fits,
+      (rw numbers at (r .0 .1)) ∙ next-stands (a .out .now) (l .loop .out) _ u _ (a .at) (l .loop .p) (l .loop .inv .4) (l .loop .inv .1) more fits,
       refl,
     )
 
@@ -99,7 +98,7 @@ returns c =
     let a = l .before .before .before .args in
     let h : a .row .n ≤ length (a .row .posts) = omega (arith, full (l .before)) in
     let all = take-all (l .loop .j) (take (a .row .n) (a .row .posts)) (rw (length-take-le (a .row .n) (a .row .posts) h) (c .loop-test .left)) in
-    rw (line-is (a .row) (omega arith)) (rw all at (l .loop .inv .1), rw all at (l .loop .inv .4))
+    (rw (line-is (a .row) (omega arith)) (rw all at (l .loop .inv .1), rw all at (l .loop .inv .4)), omega arith)
 
 pub put-sections-spec : {M : Type 1} → statement M
 put-sections-spec =

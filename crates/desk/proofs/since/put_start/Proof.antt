@@ -4,7 +4,7 @@ use mathlib.Core.Path.{refl, ap, _∙_}
 use mathlib.Core.List.{List, [], _∷_}
 use native.Mathlib.Omega.{arith}
 use lib.ListN.{set}
-use Rattle.listing.proofs.Stores.{put-one, stored-more}
+use Rattle.digits.proofs.Stores.{put-one, stored-more}
 use Rattle.desk.proofs.Texts.{start-bytes}
 use borrow.Author.Needs.{needs}
 use Rattle.desk.proofs.since.put_start.Statement.{statement}

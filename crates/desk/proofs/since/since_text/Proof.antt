@@ -7,13 +7,16 @@ use Rattle.desk.proofs.since.since_text.Tie as tie
 since-when-requires : tie.Need-since-when-requires
 since-when-requires c κs = search needs
 
+cast-refused-line : tie.Need-cast-refused-line
+cast-refused-line c = search needs
+
 refused-line-requires : tie.Need-refused-line-requires
 refused-line-requires c κs = search needs
 
 returns : tie.Need-returns
 returns c =
-    let w = c .before .before .before .before in
-    rw (text-refused _ _ (w .since-when .result) (w .since-when .ensures) (c .before .before .if1 .taken)) (c .refused-line .ensures)
+    let w = c .before .before .before .before .before in
+    rw (text-refused _ _ (w .since-when .result) (w .since-when .ensures) (c .before .before .before .if1 .taken)) (c .refused-line .ensures)
 
 put-start-requires : tie.Need-put-start-requires
 put-start-requires c κs = search needs
@@ -76,6 +79,7 @@ since-text-spec =
     tie.close
     (tie.spec
     since-when-requires
+    cast-refused-line
     refused-line-requires
     returns
     put-start-requires

@@ -1,0 +1,33 @@
+-- The line of a refusal: the word "refused" and its space a byte at a time, and the line as the pieces that are put one after the other.
+-- Assumes nothing.
+use Prim.Native.Nat.{ℕ, _≤_}
+use mathlib.Core.Path.{_≡_}
+use mathlib.Core.List.{List, [], _∷_, _++_, append-assoc, append-nil}
+use native.Mathlib.Omega.{arith}
+use lib.ListN.{length, set}
+use Rattle.digits.specs.Digits.{digits}
+use Rattle.digits.specs.Texts.{stored}
+use Rattle.digits.proofs.Stores.{put-one, stored-more}
+use Rattle.listing.specs.Lines.{space, spaced, lineFeed, refusedLine}
+
+-- the word "refused" and a space, a byte at a time
+abbrev pub refused : List ℕ
+refused = 114 ∷ 101 ∷ 102 ∷ 117 ∷ 115 ∷ 101 ∷ 100 ∷ space ∷ []
+
+pub refused-put : (d : List ℕ) → 8 ≤ length d → set (set (set (set (set (set (set (set d 0 114) 1 101) 2 102) 3 117) 4 115) 5 101) 6 100) 7 space ≡ stored d 0 refused
+refused-put d h =
+    rw (
+      put-one d 0 114 (omega arith),
+      stored-more d 0 (114 ∷ []) 101 (omega arith),
+      stored-more d 0 (114 ∷ 101 ∷ []) 102 (omega arith),
+      stored-more d 0 (114 ∷ 101 ∷ 102 ∷ []) 117 (omega arith),
+      stored-more d 0 (114 ∷ 101 ∷ 102 ∷ 117 ∷ []) 115 (omega arith),
+      stored-more d 0 (114 ∷ 101 ∷ 102 ∷ 117 ∷ 115 ∷ []) 101 (omega arith),
+      stored-more d 0 (114 ∷ 101 ∷ 102 ∷ 117 ∷ 115 ∷ 101 ∷ []) 100 (omega arith),
+      stored-more d 0 (114 ∷ 101 ∷ 102 ∷ 117 ∷ 115 ∷ 101 ∷ 100 ∷ []) space (omega arith),
+    )
+
+-- the line in its pieces
+pub refused-pieces : (n p : ℕ) → (((refused ++ digits n) ++ (space ∷ [])) ++ digits p) ++ (lineFeed ∷ []) ≡ refusedLine n p
+unfolding refusedLine spaced
+refused-pieces n p = simp (append-assoc, append-nil)
