@@ -11,7 +11,7 @@ use lib.ListN.{length, length-append}
 use Rattle.relay.specs.Choice.{pick}
 use Rattle.relay.proofs.Truth.{split}
 use Rattle.register.specs.Lexer.{class, action, Lexed, lexed, snoc, part, act, step, run, begin, whole, isWhole, finish, lexText}
-use Rattle.register.specs.Reading.{nothing}
+use Rattle.register.specs.Reading.{nothing, standing, after}
 use Rattle.register.specs.Texts.{Field, cr, lf, lineEnd, saidAll}
 use Rattle.register.specs.declared.Act.{Act}
 use Rattle.register.specs.declared.Act.the-variants.{Open, Add, Close, EndField, EndLine, EndRecord, Break}
@@ -27,7 +27,8 @@ use Rattle.importing.specs.declared.steps.State.{State}
 use Rattle.importing.proofs.Ends.{breaks, ends}
 use Rattle.importing.proofs.Fold.{fed-append}
 use Rattle.importing.proofs.Follows as follows
-use Rattle.importing.proofs.Follows.{On, Off, Follows, standing-in}
+use Rattle.importing.proofs.Follows.{On, Off, Follows, standing-in, marksFrom}
+use Rattle.register.specs.declared.Stage.the-variants.{AtHeader}
 use Rattle.importing.proofs.Kept.{kept-none}
 
 -- ---- one byte
@@ -79,3 +80,48 @@ off-run l f t o = go (o .over)
         let q : saidAll (run l t .rows) ≡ saidAll (l .rows) ++ saidAll (z .0) = ap (λ (x : List (List Field)). saidAll x) (z .1) ∙ said-append (l .rows) (z .0) in
         let n : standing-in (run l t) ≡ standing-in l = rw q (standing-over nothing (saidAll (l .rows)) (saidAll (z .0)) h) in
         record { stops = o .stops; few = o .few; count = o .count ∙ ap suc (sym n); over = inr (rw q (omega (arith, length-append (saidAll (l .rows)) (saidAll (z .0)), rw q at n))) }
+
+-- ---- one byte alone
+module _ (l : Lexed) (f : Fed) (b : ℕ) where
+  one-off : Off (run l (b ∷ [])) (fed f (b ∷ [])) → Off (step l b) (fedNext f b)
+  unfolding run fed
+  one-off o = o
+
+  one-follows : Follows (step l b) (fedNext f b) → Follows (run l (b ∷ [])) (fed f (b ∷ []))
+  unfolding run fed
+  one-follows w = w
+
+-- ---- byte after byte
+module _ (ks : List ℕ) (es : List (List ℕ)) where
+  -- a text fed from the start
+  abbrev pub fedOf : List ℕ → Fed
+  fedOf text = fed (fedAt begun ks es) text
+
+  begins : Follows begin (fedAt begun ks es)
+  unfolding standing after saidAll marksFrom
+  begins =
+      inl (record {
+        all = refl;
+        mode = refl;
+        stage = refl;
+        stamp = refl;
+        posts = refl;
+        counted = refl;
+        place = refl;
+        mark = follows.mark-none AtHeader 0;
+        first = begun .marks;
+        marks = refl;
+        kinds = kept-none ks;
+        events = kept-none es;
+      })
+
+  -- one byte more of a text that is not too long to count
+  next : (t : List ℕ) (b : ℕ) → length t < 2 ^ 64 + 1 → Follows (run begin t) (fedOf t) → Follows (step (run begin t) b) (fedNext (fedOf t) b)
+  next t b h (inl o) = on-next (run begin t) (fedOf t) b o (omega (arith, rows-few t, said-long (run begin t .rows)))
+  next t b h (inr o) = inr (one-off (run begin t) (fedOf t) b (off-fed (run (run begin t) (b ∷ [])) (fedOf t) (b ∷ []) (off-run (run begin t) (fedOf t) (b ∷ []) o)))
+
+  pub follows-on : (t u : List ℕ) → length t + length u < 2 ^ 64 + 2 → Follows (run begin t) (fedOf t) → Follows (run begin (t ++ u)) (fedOf (t ++ u))
+  follows-on t [] h w = rw (append-nil t) w
+  follows-on t (b ∷ u) h w =
+      let n : length (t ++ (b ∷ [])) ≡ length t + 1 = length-append t (b ∷ []) in
+      rw append-assoc at (follows-on (t ++ (b ∷ [])) u (omega arith) (rw (run-append begin t (b ∷ []), fed-append (fedAt begun ks es) t (b ∷ [])) (one-follows (run begin t) (fedOf t) b (next t b (omega arith) w))))

@@ -8,7 +8,7 @@ use lib.Dec.{eqb, ltb, leb}
 use lib.ListN.{length, getD}
 use Rattle.relay.specs.Choice.{pick}
 use Rattle.relay.specs.Kinds.{terminus}
-use Rattle.digits.specs.Numerals.{wrong, withDigit}
+use Rattle.digits.specs.Numerals.{wrong, limit, withDigit}
 use Rattle.register.specs.Lexer.{class, action, adding}
 use Rattle.register.specs.Reading.{mayStand}
 use Rattle.register.specs.Records.{header}
@@ -80,9 +80,9 @@ stopped s = moved s Broken (s .place) (s .mark) (s .marks)
 abbrev pub onward : State → Stage → ℕ → ℕ → ℕ → State
 onward s g stamp posts events = state Start g 0 0 (s .marks) stamp posts events
 
--- so many events are counted; a text in lent bytes has not as many
+-- so many events are counted, as far as a position is read; a text in lent bytes has not as many
 abbrev pub mostCounted : ℕ
-mostCounted = 2 ^ 63
+mostCounted = limit - 1
 
 unfoldable pub headerStands : Marks → Bool
 headerStands k =

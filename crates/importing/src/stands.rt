@@ -12,8 +12,8 @@ use crate::steps::State;
 // A number of 32 bits lies below this one.
 const WORD: u64 = 4294967296;
 
-// So many events are counted, 2 to the 63rd: a text in lent bytes has not as many.
-pub const MOST_COUNTED: u64 = 9223372036854775808;
+// So many events are counted, as far as a position is read: a text in lent bytes has not as many.
+pub const MOST_COUNTED: u64 = 9999999999999999999;
 
 // The number that a mark says, where it has 32 bits.
 pub fn number_of(m: u64) -> u32
