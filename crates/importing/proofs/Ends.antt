@@ -186,10 +186,10 @@ module _ (l : Lexed) (f : Fed) (o : On l f) (few : length (saidAll (l .rows)) < 
   held : Held g t (saidAll (l .rows))
   held = held-all AtHeader (record { stamp = 0; kinds = []; events = [] }) [] (saidAll (l .rows)) (o .all) (refl, refl, refl)
 
-  counts : recordAt (s .stage) (s .posts) (s .events) ≡ suc (length (saidAll (l .rows)))
+  pub counts : recordAt (s .stage) (s .posts) (s .events) ≡ suc (length (saidAll (l .rows)))
   counts = rw (o .stage, o .posts, o .counted) (held-count g t (saidAll (l .rows)) held)
 
-  events-few : s .events ≤ mostCounted
+  pub events-few : s .events ≤ mostCounted
   events-few = rw (o .counted) (omega (arith, held-few g t (saidAll (l .rows)) held))
 
   -- the text breaks

@@ -8,3 +8,4 @@ pub mod Follows
 pub mod Ends
 pub mod Runs
 pub mod Settled
+pub mod Answers

@@ -6,13 +6,15 @@ use mathlib.Core.Logic.{_⊎_, inl, inr}
 use mathlib.Core.Bool.{Bool, true, false, _&&_}
 use mathlib.Core.List.{List, [], _∷_, _++_, append-assoc, append-nil}
 use native.Mathlib.Omega.{arith}
+use borrow.Author.Tests.{eq-eqb, ne-eqb}
 use lib.Dec.{eqb}
 use lib.ListN.{length, length-append}
 use Rattle.relay.specs.Choice.{pick}
 use Rattle.relay.proofs.Truth.{split}
 use Rattle.register.specs.Lexer.{class, action, Lexed, lexed, snoc, part, act, step, run, begin, whole, isWhole, finish, lexText}
 use Rattle.register.specs.Reading.{nothing, standing, after}
-use Rattle.register.specs.Texts.{Field, cr, lf, lineEnd, saidAll}
+use Rattle.register.specs.Register.{recordsIn}
+use Rattle.register.specs.Texts.{Field, lineEnd, saidAll}
 use Rattle.register.specs.declared.Act.{Act}
 use Rattle.register.specs.declared.Act.the-variants.{Open, Add, Close, EndField, EndLine, EndRecord, Break}
 use Rattle.register.specs.declared.Mode.{Mode}
@@ -125,3 +127,73 @@ module _ (ks : List ℕ) (es : List (List ℕ)) where
   follows-on t (b ∷ u) h w =
       let n : length (t ++ (b ∷ [])) ≡ length t + 1 = length-append t (b ∷ []) in
       rw append-assoc at (follows-on (t ++ (b ∷ [])) u (omega arith) (rw (run-append begin t (b ∷ []), fed-append (fedAt begun ks es) t (b ∷ [])) (one-follows (run begin t) (fedOf t) b (next t b (omega arith) w))))
+
+-- ---- at the end of the text
+whole-as : (m : Mode) (fs : List Field) (p : ℕ) → p ≡ min 6 (length fs) → (importing.isStart m && eqb p 0) ≡ whole m fs
+whole-as Start [] p e = eq-eqb p 0 e
+whole-as Start (x ∷ fs) p e = ne-eqb p 0 (λ z. omega arith)
+whole-as Plain fs p e = refl
+whole-as Inside fs p e = refl
+whole-as Closing fs p e = refl
+whole-as AtCr fs p e = refl
+whole-as Broken fs p e = refl
+
+pub whole-same : (l : Lexed) (f : Fed) → On l f → importing.isWhole (f .state) ≡ isWhole l
+unfolding importing.isWhole
+whole-same l f o = rw (o .mode) (whole-as (l .mode) (l .fields) (f .state .place) (o .place))
+
+pub stopped-open : (s : State) → s .mode ≡ Broken → importing.isWhole s ≡ false
+unfolding importing.isWhole
+stopped-open s e = rw e
+
+module _ (l : Lexed) (f : Fed) where
+  close-whole : importing.isWhole (f .state) ≡ true → importing.closed f ≡ f
+  unfolding importing.closed
+  close-whole e = rw e
+
+  close-open : importing.isWhole (f .state) ≡ false → importing.closed f ≡ fed f lineEnd
+  unfolding importing.closed
+  close-open e = rw e
+
+  finish-whole : isWhole l ≡ true → finish l ≡ l
+  unfolding finish
+  finish-whole e = rw e
+
+  finish-open : isWhole l ≡ false → finish l ≡ run l lineEnd
+  unfolding finish
+  finish-open e = rw e
+
+  off-closed : Off l f → Off (finish l) (importing.closed f)
+  off-closed o =
+      let x = off-fed l f lineEnd o in
+      rw (close-open (stopped-open (f .state) (o .stops)))
+      (split (isWhole l) (λ e. rw (finish-whole e) x) (λ e. rw (finish-open e) (off-run l (fed f lineEnd) lineEnd x)))
+
+  on-closed : On l f → Follows (run l lineEnd) (fed f lineEnd) → Follows (finish l) (importing.closed f)
+  on-closed o w =
+      split (isWhole l)
+      (λ e. rw (finish-whole e, close-whole (whole-same l f o ∙ e)) (inl o))
+      (λ e. rw (finish-open e, close-open (whole-same l f o ∙ e)) w)
+
+-- what a text leaves follows what is read of it
+module _ (ks : List ℕ) (es : List (List ℕ)) (text : List ℕ) (short : length text < 2 ^ 64) where
+  so-far : Follows (run begin text) (fedOf ks es text)
+  unfolding run fed
+  so-far = follows-on ks es [] text (omega arith) (begins ks es)
+
+  pub text-followed : Follows (lexText text) (importing.closed (fedOf ks es text))
+  text-followed = go so-far
+    where
+      go : Follows (run begin text) (fedOf ks es text) → Follows (lexText text) (importing.closed (fedOf ks es text))
+      go (inr o) = inr (off-closed (run begin text) (fedOf ks es text) o)
+      go (inl o) =
+          on-closed (run begin text) (fedOf ks es text) o
+          (rw (run-append begin text lineEnd, fed-append (fedAt begun ks es) text lineEnd) at (follows-on ks es text lineEnd (omega arith) (inl o)))
+
+  -- and its records can be counted
+  pub records-few : length (recordsIn text) < mostCounted
+  records-few =
+      let l = run begin text in
+      split (isWhole l)
+      (λ e. rw (finish-whole l (fedOf ks es text) e) (omega (arith, rows-few text, said-long (l .rows))))
+      (λ e. rw (finish-open l (fedOf ks es text) e, ← run-append begin text lineEnd) (omega (arith, rows-few (text ++ lineEnd), length-append text lineEnd, said-long (run begin (text ++ lineEnd) .rows))))

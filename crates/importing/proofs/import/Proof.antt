@@ -1,3 +1,6 @@
+use Rattle.importing.proofs.Answers.{settled-imports}
+use native.Mathlib.Omega.{arith}
+use mathlib.Core.Path.{refl, _∙_}
 use Rattle.relay.proofs.Tests.{tests}
 use borrow.Author.Needs.{needs}
 use Rattle.importing.proofs.import.Statement.{statement}
@@ -42,7 +45,11 @@ same-length c = search tests
 
 -- src/lib.rt:202:1
 returns : tie.Need-returns
-returns c = ?
+returns c = 
+    let a = c .before .before .before .before .before .before .before .before .before .before .before .before .before .before .before .before .args in
+    let e = c .before .before .before .before .settle .ensures in
+    let s = settled-imports (a .text .now) (a .out .now) _ _ (omega arith) refl refl _ _ (c .before .before .before .before .before .before .before .before .before .before .before .before .before .begin .ensures) (c .before .before .before .before .before .before .before .before .before .before .feed .ensures) in
+    (e .0 ∙ s .0, e .1 ∙ s .1)
 
 pub import-spec : {M : Type 1} → statement M
 import-spec =
