@@ -53,6 +53,16 @@ pub enum Request {
         sheet: Vec<u8>,
         position: u32,
     },
+    Export {
+        sheet: Vec<u8>,
+        out_len: usize,
+        fill: u8,
+    },
+    Import {
+        text: Vec<u8>,
+        out_len: usize,
+        fill: u8,
+    },
 }
 
 impl Request {
@@ -112,10 +122,17 @@ impl Request {
                 sheet,
                 out_len,
                 fill,
-            } => {
-                let front = [6, size(sheet.len()), size(*out_len), u32::from(*fill)];
-                joined(&front, &[&padded(sheet)])
-            }
+            } => made_words(6, sheet, *out_len, *fill),
+            Request::Export {
+                sheet,
+                out_len,
+                fill,
+            } => made_words(9, sheet, *out_len, *fill),
+            Request::Import {
+                text,
+                out_len,
+                fill,
+            } => made_words(10, text, *out_len, *fill),
             Request::Why { sheet, position } => {
                 joined(&[8, size(sheet.len()), *position], &[&padded(sheet)])
             }
@@ -147,8 +164,16 @@ impl Request {
             }
             Request::Run { kinds, steps, .. } => (1 + steps.len()) * (3 + kinds.len() * POST_WORDS),
             Request::Why { .. } => 3,
+            Request::Export { out_len, .. } => 4 + out_len.div_ceil(4),
+            Request::Import { out_len, .. } => 5 + out_len.div_ceil(4),
         }
     }
+}
+
+/// The words of a call that makes bytes of bytes.
+fn made_words(call: u32, bytes: &[u8], out_len: usize, fill: u8) -> Vec<u32> {
+    let front = [call, bytes.len() as u32, out_len as u32, u32::from(fill)];
+    joined(&front, &[&padded(bytes)])
 }
 
 fn joined(front: &[u32], parts: &[&[u32]]) -> Vec<u32> {

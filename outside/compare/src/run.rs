@@ -38,7 +38,9 @@ impl Batch {
         let of_request = match &case.request {
             Request::Read { sheet, .. }
             | Request::Work { sheet, .. }
+            | Request::Export { sheet, .. }
             | Request::Why { sheet, .. } => sheet.len() / 4,
+            Request::Import { text, .. } => text.len() / 4,
             Request::Write { events, .. } => 4 * events.len(),
             _ => 0,
         };
@@ -94,7 +96,7 @@ fn check(sorts: &[Sort], batch: &Batch, library: &mut dyn Library) -> Result<(),
         if given.as_ref() != Some(&expected.reply) {
             let sort = &sorts[expected.sort];
             let name = format!("{}:{}", sort.name, expected.index);
-            let variety = sort.varieties[expected.variety];
+            let variety = &sort.varieties[expected.variety];
             let text = difference(request, variety, given.as_deref(), &expected.reply);
             return Err(Difference { name, text });
         }

@@ -17,6 +17,7 @@ const FEW: Wanted = Wanted {
     rows: 2_000,
     sheets: 1_000,
     questions: 300,
+    texts: 2_000,
 };
 
 fn command(words: &[&str]) -> Vec<String> {

@@ -74,6 +74,13 @@ impl<R: Read> Wire<R> {
         }
     }
 
+    /// What a call has that makes bytes of bytes: the bytes, its room and its fill.
+    fn made(&mut self) -> io::Result<(Vec<u8>, usize, u8)> {
+        let [bytes, out_len, fill] = self.few()?;
+        let bytes = self.bytes(bytes as usize)?;
+        Ok((bytes, out_len as usize, fill as u8))
+    }
+
     fn sheet_request(&mut self, code: u32) -> io::Result<Request> {
         match code {
             4 => {
@@ -96,17 +103,33 @@ impl<R: Read> Wire<R> {
                 })
             }
             6 => {
-                let [bytes, out_len, fill] = self.few()?;
+                let (sheet, out_len, fill) = self.made()?;
                 Ok(Request::Work {
-                    sheet: self.bytes(bytes as usize)?,
-                    out_len: out_len as usize,
-                    fill: fill as u8,
+                    sheet,
+                    out_len,
+                    fill,
                 })
             }
             8 => {
                 let [bytes, position] = self.few()?;
                 let sheet = self.bytes(bytes as usize)?;
                 Ok(Request::Why { sheet, position })
+            }
+            9 => {
+                let (sheet, out_len, fill) = self.made()?;
+                Ok(Request::Export {
+                    sheet,
+                    out_len,
+                    fill,
+                })
+            }
+            10 => {
+                let (text, out_len, fill) = self.made()?;
+                Ok(Request::Import {
+                    text,
+                    out_len,
+                    fill,
+                })
             }
             _ => Err(io::ErrorKind::InvalidData.into()),
         }

@@ -13,6 +13,7 @@ pub const SMALL: Wanted = Wanted {
     rows: 20_000,
     sheets: 4_000,
     questions: 2_000,
+    texts: 20_000,
 };
 
 pub fn small_run(desk: impl Desk) -> Result<Tally, Difference> {
