@@ -85,7 +85,7 @@ pub fn sorts() -> Vec<Sort> {
 }
 
 /// Each sort's share, in the order of `sorts`.
-fn shares(wanted: Wanted) -> [u64; 17] {
+pub fn shares(wanted: Wanted) -> [u64; 17] {
     let Wanted {
         events,
         rows,
@@ -137,8 +137,7 @@ pub fn case(sorts: &[Sort], seed: u64, sort: usize, index: u64) -> Case {
 const TURNS: u64 = 50;
 
 /// Gives every case of a run to `sink`, until it says that it wants no more.
-pub fn each_case(sorts: &[Sort], seed: u64, wanted: Wanted, sink: &mut dyn FnMut(Case) -> bool) {
-    let shares = shares(wanted);
+pub fn each_case(sorts: &[Sort], seed: u64, shares: &[u64], sink: &mut dyn FnMut(Case) -> bool) {
     let mut next_index = vec![0; sorts.len()];
     let mut done = vec![0; sorts.len()];
     for turn in 1..=TURNS {

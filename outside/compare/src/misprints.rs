@@ -85,8 +85,8 @@ pub const MISPRINTS: &[Misprint] = &[
         let more = random.pick(&["", "\"\"", "0"]).to_string();
         fields.insert(random.below(fields.len() + 1), more);
     }),
-    ("one field alone", |random, text, at| {
-        text.records[at].fields.truncate(random.pick(&[0, 1]));
+    ("one field alone", |_, text, at| {
+        text.records[at].fields.truncate(1);
     }),
     ("a field emptied", |random, text, at| {
         alter(some_used(random, text, at), |_| String::new());
@@ -127,31 +127,19 @@ pub const MISPRINTS: &[Misprint] = &[
         });
     }),
     ("a number that comes round", |random, text, at| {
-        let turns = random.pick(&[1u128 << 32, 1 << 33, 1 << 64, 3 << 64, 1 << 40]);
-        alter(some_used(random, text, at), |bare| {
-            let number: Result<u128, _> = bare.parse();
-            number.map_or(bare.to_uppercase(), |n| (n + turns).to_string())
-        });
+        let turns = random.pick(&[1 << 32, 1 << 33, 1 << 64, 3 << 64, 1 << 40]);
+        alter(some_used(random, text, at), |bare| turned(bare, turns));
     }),
-    ("a number that comes round at less", |random, text, at| {
-        let turns = random.pick(&[32u128, 64, 128, 256, 512, 1 << 16]);
-        let fields = &mut text.records[at].fields;
-        // Not a stamp, which may have any of these.
-        let used = [0, 1, 2, 4]
-            .into_iter()
-            .filter(|&f| !inside(&fields[f]).is_empty());
-        let used: Vec<usize> = used.collect();
-        let at = if used.is_empty() {
-            3
-        } else {
-            random.pick(&used)
-        };
-        alter(&mut fields[at], |bare| {
-            let turns = if at == 3 { 1 << 32 } else { turns };
-            let number: Result<u128, _> = bare.parse();
-            number.map_or(bare.to_uppercase(), |n| (n + turns).to_string())
-        });
-    }),
+    (
+        "a number that comes round at its field",
+        |random, text, at| {
+            let fields = &mut text.records[at].fields;
+            let field = used_place(random, fields);
+            let least = [256, 32, 64, 1 << 32, 32][field];
+            let turns = random.pick(&[least, 2 * least, 8 * least, 1 << 48]);
+            alter(&mut fields[field], |bare| turned(bare, turns));
+        },
+    ),
     ("no digits", |random, text, at| {
         let wrong = [
             "x", "0x1", "1e1", "1.0", "1;", "\u{661}", "\u{ff11}", "-", "#",
@@ -206,6 +194,12 @@ pub fn alter(field: &mut String, change: impl FnOnce(&str) -> String) {
     };
 }
 
+/// A number and so much; of a name its capitals.
+fn turned(bare: &str, turns: u128) -> String {
+    let number: Result<u128, _> = bare.parse();
+    number.map_or(bare.to_uppercase(), |number| (number + turns).to_string())
+}
+
 fn beside(field: &str, more: &str, before: bool) -> String {
     match before {
         true => format!("{more}{field}"),
@@ -222,9 +216,14 @@ fn some_field<'a>(random: &mut Random, text: &'a mut Text, at: usize) -> &'a mut
 /// A field that is not empty.
 fn some_used<'a>(random: &mut Random, text: &'a mut Text, at: usize) -> &'a mut String {
     let fields = &mut text.records[at].fields;
+    let field = used_place(random, fields);
+    &mut fields[field]
+}
+
+fn used_place(random: &mut Random, fields: &[String]) -> usize {
     let used = |field: &usize| !inside(&fields[*field]).is_empty();
     let used: Vec<usize> = (0..fields.len()).filter(used).collect();
-    &mut fields[random.pick(&used)]
+    random.pick(&used)
 }
 
 /// Put anywhere in a field, inside its quotes or not.

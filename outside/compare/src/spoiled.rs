@@ -146,6 +146,11 @@ pub const SPOILED: &[Variety] = &[
             }
         })
     }),
+    ("a mark of the order of bytes before it", |random| {
+        changed(random, |_, bytes| {
+            bytes.splice(0..0, *b"\xEF\xBB\xBF");
+        })
+    }),
     ("a bit flipped", |random| {
         changed(random, |random, bytes| {
             let at = random.below(bytes.len());

@@ -1,0 +1,804 @@
+//! Libraries that are the model with one fault about the register put in (02, item 3):
+//! each must be found by a small run. And what the makers of texts say of them.
+
+mod common;
+
+use common::{compare_only, must_differ_on};
+use compare::desk::Desk;
+use compare::misprints::{inside, misprinted, names};
+use compare::random::Random;
+use compare::texts::CRLF;
+use model::{sheet_length, Exported, Imported};
+
+/// The sorts of cases that import, and the one that exports.
+const IMPORTING: [&str; 5] = [
+    "right-texts",
+    "misprints",
+    "spoiled-texts",
+    "cut-texts",
+    "long-texts",
+];
+const EXPORTING: [&str; 1] = ["exporting"];
+
+/// A desk that imports by this.
+struct Imports(fn(&[u8], &mut [u8]) -> Imported);
+
+impl Desk for Imports {
+    fn import(&mut self, text: &[u8], out: &mut [u8]) -> Imported {
+        (self.0)(text, out)
+    }
+}
+
+/// A desk that exports by this.
+struct Exports(fn(&[u8], &mut [u8]) -> Exported);
+
+impl Desk for Exports {
+    fn export(&mut self, sheet: &[u8], out: &mut [u8]) -> Exported {
+        (self.0)(sheet, out)
+    }
+}
+
+type ImportFault = (&'static str, fn(&[u8], &mut [u8]) -> Imported);
+type ExportFault = (&'static str, fn(&[u8], &mut [u8]) -> Exported);
+
+/// The text as this desk takes it: bytes as characters, so that any can be looked at.
+fn mended(text: &[u8], out: &mut [u8], mend: impl Fn(&str) -> String) -> Imported {
+    let text: String = text.iter().map(|&byte| char::from(byte)).collect();
+    let mended: Vec<u8> = mend(&text).chars().map(|c| c as u8).collect();
+    model::import(&mended, out)
+}
+
+/// Each row mended, by its place from 0 and whether it stands behind the table.
+fn rows(text: &[u8], out: &mut [u8], mend: fn(usize, usize, &str) -> String) -> Imported {
+    mended(text, out, |text| {
+        let mut posts = 0;
+        let mut row = |(at, row): (usize, &str)| {
+            let is_post = at > 1 && posts == 0;
+            let new = mend(at, posts, row);
+            let ends = new
+                .split(',')
+                .nth(1)
+                .is_some_and(|kind| inside(kind) == "1");
+            if is_post && ends {
+                posts = at - 1;
+            }
+            new
+        };
+        let rows: Vec<String> = text.split(CRLF).enumerate().map(&mut row).collect();
+        rows.join(CRLF)
+    })
+}
+
+/// Each field mended, by the record's place, how many posts stand before it if it is an
+/// event (else 0), and the field's place.
+fn fields(
+    text: &[u8],
+    out: &mut [u8],
+    mend: impl Fn(usize, usize, usize, &str) -> String + Copy,
+) -> Imported {
+    mended(text, out, |text| {
+        let mut posts = 0;
+        let mut rows = Vec::new();
+        for (at, row) in text.split(CRLF).enumerate() {
+            let field = |(place, field): (usize, &str)| mend(at, posts, place, field);
+            let row: Vec<String> = row.split(',').enumerate().map(field).collect();
+            if at > 1 && posts == 0 && row.get(1).is_some_and(|kind| inside(kind) == "1") {
+                posts = at - 1;
+            }
+            rows.push(row.join(","));
+        }
+        rows.join(CRLF)
+    })
+}
+
+/// The content of every field mended, its quotes left.
+fn contents(text: &[u8], out: &mut [u8], mend: fn(&str) -> String) -> Imported {
+    fields(text, out, |_, _, _, field| {
+        let bare = inside(field);
+        field.replacen(bare, &mend(bare), usize::from(!bare.is_empty()))
+    })
+}
+
+/// The model's answer where it is a refusal, changed so.
+fn refused(text: &[u8], out: &mut [u8], change: fn(Imported, &[u8]) -> Imported) -> Imported {
+    let told = model::import(text, out);
+    match told.number {
+        0 => told,
+        _ => change(told, text),
+    }
+}
+
+/// Digits with the zeros before them taken off.
+fn no_zeros(digits: &str) -> String {
+    let is_number = !digits.is_empty() && digits.bytes().all(|byte| byte.is_ascii_digit());
+    match digits.trim_start_matches('0') {
+        "" if is_number => "0".to_string(),
+        rest if is_number => rest.to_string(),
+        _ => digits.to_string(),
+    }
+}
+
+/// A number carried round.
+fn round(digits: &str, at: u128) -> String {
+    let number: Result<u128, _> = digits.parse();
+    number.map_or(digits.to_string(), |number| (number % at).to_string())
+}
+
+/// 28 at this record.
+fn cannot_stand(record: u64) -> Imported {
+    Imported {
+        number: 28,
+        record,
+        bytes: 0,
+    }
+}
+
+/// How many records there are by line ends alone.
+fn count(text: &[u8]) -> usize {
+    let ends = text.windows(2).filter(|two| two == b"\r\n").count();
+    ends + usize::from(!text.is_empty() && !text.ends_with(b"\r\n"))
+}
+
+const LINE_ENDS: &[ImportFault] = &[
+    ("LF for CR LF", |text, out| {
+        mended(text, out, |text| {
+            text.replace(CRLF, "\n").replace('\n', CRLF)
+        })
+    }),
+    ("LF alone, where CR LF is refused", |text, out| {
+        mended(text, out, |text| {
+            let marked = text.replace(CRLF, "\x01");
+            marked.replace('\n', CRLF).replace('\x01', "\n")
+        })
+    }),
+    ("CR for CR LF", |text, out| {
+        mended(text, out, |text| {
+            text.replace(CRLF, "\r").replace('\r', CRLF)
+        })
+    }),
+    ("a lone CR at the end let in", |text, out| {
+        model::import(text.strip_suffix(b"\r").unwrap_or(text), out)
+    }),
+    ("a lone LF at the end let in", |text, out| {
+        mended(text, out, |text| match text.strip_suffix('\n') {
+            Some(rest) if !rest.ends_with('\r') => rest.to_string(),
+            _ => text.to_string(),
+        })
+    }),
+    ("last line end demanded", |text, out| {
+        let mut tried = out.to_vec();
+        let told = model::import(text, &mut tried);
+        if told.number == 28 || text.ends_with(b"\r\n") {
+            return model::import(text, out);
+        }
+        cannot_stand(count(text) as u64)
+    }),
+    ("last line end refused", |text, out| {
+        let mut tried = out.to_vec();
+        let told = model::import(text, &mut tried);
+        if told.number == 28 || !text.ends_with(b"\r\n") {
+            return model::import(text, out);
+        }
+        cannot_stand(count(text) as u64 + 1)
+    }),
+    ("a blank line at the end let in", |text, out| {
+        model::import(text.strip_suffix(b"\r\n\r\n").unwrap_or(text), out)
+    }),
+    ("blank lines let in", |text, out| {
+        mended(text, out, |text| text.replace("\r\n\r\n", CRLF))
+    }),
+];
+
+const QUOTES: &[ImportFault] = &[
+    ("a quote inside a field let in", |text, out| {
+        fields(text, out, |_, _, _, field| match field.starts_with('"') {
+            true => field.to_string(),
+            false => field.replace('"', ""),
+        })
+    }),
+    ("every quote passed over", |text, out| {
+        mended(text, out, |text| text.replace('"', ""))
+    }),
+    ("anything behind a closing quote", |text, out| {
+        fields(text, out, |_, _, _, field| {
+            let closed = field
+                .rfind('"')
+                .filter(|&at| at > 0 && field.starts_with('"'));
+            closed.map_or(field, |at| &field[..=at]).to_string()
+        })
+    }),
+    ("a space behind a closing quote", |text, out| {
+        mended(text, out, |text| text.replace("\" ", "\""))
+    }),
+    ("CR or LF behind a closing quote", |text, out| {
+        mended(text, out, |text| {
+            let marked = text.replace("\"\r\n", "\x01");
+            let ended = marked.replace("\"\n", "\x01").replace("\"\r", "\x01");
+            ended.replace('\x01', "\"\r\n")
+        })
+    }),
+    ("a quote never closed let in at the end", |text, out| {
+        mended(text, out, |text| match text.matches('"').count() % 2 {
+            0 => text.to_string(),
+            _ => format!("{}\"", text.strip_suffix(CRLF).unwrap_or(text)),
+        })
+    }),
+    ("a doubled quote is none", |text, out| {
+        fields(text, out, |_, _, _, field| match inside(field) {
+            bare if bare.len() < field.len() => format!("\"{}\"", bare.replace("\"\"", "")),
+            _ => field.to_string(),
+        })
+    }),
+    ("no quotes about an empty field", |text, out| {
+        fields(text, out, |_, _, _, field| {
+            field.replace("\"\"", "x").to_string()
+        })
+    }),
+    ("no quotes in the header", |text, out| {
+        fields(text, out, |at, _, _, field| match at {
+            0 => field.replace('"', "x"),
+            _ => field.to_string(),
+        })
+    }),
+    ("no quotes about numbers", |text, out| {
+        fields(text, out, |at, _, _, field| match at {
+            0 => field.to_string(),
+            _ if inside(field).is_empty() => field.to_string(),
+            _ => field.replace('"', "x"),
+        })
+    }),
+    ("no quotes about the last field", |text, out| {
+        fields(text, out, |_, _, place, field| match place {
+            4 => field.replace('"', "x"),
+            _ => field.to_string(),
+        })
+    }),
+];
+
+const FIELDS: &[ImportFault] = &[
+    ("a leading zero let in", |text, out| {
+        contents(text, out, no_zeros)
+    }),
+    ("00 let in", |text, out| {
+        contents(text, out, |bare| match bare {
+            "00" => "0".to_string(),
+            _ => bare.to_string(),
+        })
+    }),
+    ("a plus let in", |text, out| {
+        contents(text, out, |bare| bare.trim_start_matches('+').to_string())
+    }),
+    ("spaces let in", |text, out| {
+        contents(text, out, |bare| bare.trim_matches(' ').to_string())
+    }),
+    ("tabs let in", |text, out| {
+        contents(text, out, |bare| bare.trim_matches('\t').to_string())
+    }),
+    ("the header not looked at", |text, out| {
+        rows(text, out, |at, _, row| match at {
+            0 => "position,event,post,stamp,answer".to_string(),
+            _ => row.to_string(),
+        })
+    }),
+    ("the header's case not looked at", |text, out| {
+        fields(text, out, |at, _, _, field| match at {
+            0 => field.to_lowercase(),
+            _ => field.to_string(),
+        })
+    }),
+    ("a mark of the order of bytes let in", |text, out| {
+        model::import(text.strip_prefix(b"\xEF\xBB\xBF").unwrap_or(text), out)
+    }),
+    ("numbers come round at 2^32", |text, out| {
+        contents(text, out, |bare| round(bare, 1 << 32))
+    }),
+    ("numbers come round at 2^64", |text, out| {
+        contents(text, out, |bare| round(bare, 1 << 64))
+    }),
+    ("an event's post comes round at 64", |text, out| {
+        fields(text, out, |_, posts, place, field| match (posts, place) {
+            (1.., 2) => field.replace(inside(field), &round(inside(field), 64)),
+            _ => field.to_string(),
+        })
+    }),
+    ("an empty number is 0", |text, out| {
+        fields(text, out, |at, posts, place, field| {
+            let number = at == 1 && place == 3 || posts > 0 && place > 0;
+            match number && inside(field).is_empty() && at > 0 {
+                true => "0".to_string(),
+                false => field.to_string(),
+            }
+        })
+    }),
+    ("an unused field not looked at", |text, out| {
+        fields(text, out, |at, posts, place, field| {
+            let used: &[usize] = match (at, posts) {
+                (0, _) | (_, 1..) => &[0, 1, 2, 3, 4],
+                (1, _) => &[3],
+                _ => &[1, 2],
+            };
+            match used.contains(&place) || place > 4 {
+                true => field.to_string(),
+                false => String::new(),
+            }
+        })
+    }),
+    ("a sixth field let in", |text, out| {
+        rows(text, out, |_, _, row| {
+            row.split(',').take(5).collect::<Vec<_>>().join(",")
+        })
+    }),
+    ("a last field that is empty left out", |text, out| {
+        rows(text, out, |_, _, row| match row.matches(',').count() {
+            3 => format!("{row},"),
+            _ => row.to_string(),
+        })
+    }),
+];
+
+/// A field of an event let in up to this, the greatest that may stand put for it.
+fn up_to(text: &[u8], out: &mut [u8], field: usize, wrong: &'static str) -> Imported {
+    fields(text, out, move |_, posts, place, given| {
+        let most = ["", "31", "63", "4294967295", "31"][field];
+        match posts > 0 && place == field && inside(given) == wrong {
+            true => most.to_string(),
+            false => given.to_string(),
+        }
+    })
+}
+
+const ORDER: &[ImportFault] = &[
+    ("kinds' posts not looked at", |text, out| {
+        fields(text, out, |at, posts, place, field| match (posts, place) {
+            (0, 2) if at > 1 => (at - 2).to_string(),
+            _ => field.to_string(),
+        })
+    }),
+    ("position not looked at", |text, out| {
+        fields(text, out, |at, posts, place, field| match (posts, place) {
+            (1.., 0) if !field.is_empty() => (at - 1 - posts).to_string(),
+            _ => field.to_string(),
+        })
+    }),
+    ("positions from 0", |text, out| {
+        fields(text, out, |_, posts, place, field| match (posts, place) {
+            (1.., 0) => match inside(field).parse::<u64>() {
+                Ok(number) => (number + 1).to_string(),
+                Err(_) => field.to_string(),
+            },
+            _ => field.to_string(),
+        })
+    }),
+    ("position carried round at 256", |text, out| {
+        fields(text, out, |at, posts, place, field| match (posts, place) {
+            (1.., 0) => match inside(field).parse::<usize>() {
+                Ok(number) if number % 256 == (at - 1 - posts) % 256 => {
+                    (at - 1 - posts).to_string()
+                }
+                _ => field.to_string(),
+            },
+            _ => field.to_string(),
+        })
+    }),
+    ("event 32 let in", |text, out| up_to(text, out, 1, "32")),
+    ("post 64 let in", |text, out| up_to(text, out, 2, "64")),
+    ("stamp 2^32 let in", |text, out| {
+        up_to(text, out, 3, "4294967296")
+    }),
+    ("answer 32 let in", |text, out| up_to(text, out, 4, "32")),
+    ("kind 5 let in", |text, out| {
+        fields(text, out, |at, posts, place, field| match (posts, place) {
+            (0, 1) if at > 2 && inside(field) == "5" => "4".to_string(),
+            _ => field.to_string(),
+        })
+    }),
+    ("kind 0 let in between", |text, out| {
+        fields(text, out, |at, posts, place, field| match (posts, place) {
+            (0, 1) if at > 2 && inside(field) == "0" => "4".to_string(),
+            _ => field.to_string(),
+        })
+    }),
+    ("the first kind not looked at", |text, out| {
+        fields(text, out, |at, _, place, field| match (at, place) {
+            (2, 1) if inside(field).len() == 1 => "0".to_string(),
+            _ => field.to_string(),
+        })
+    }),
+    ("a table without an end let in", |text, out| {
+        let told = model::import(text, out);
+        let ended = told.number == 28 && told.record as usize > count(text) && told.record > 4;
+        match ended {
+            true => model::import(b"", out),
+            false => told,
+        }
+    }),
+    ("a table of 32 posts refused at post 31", |text, out| {
+        let mut tried = out.to_vec();
+        let told = model::import(text, &mut tried);
+        let of_32 = told.number == 0 && tried[4] == 32;
+        match of_32 {
+            true => cannot_stand(34),
+            false => model::import(text, out),
+        }
+    }),
+    ("post 31 may go on", |text, out| {
+        refused(text, out, |told, text| {
+            let at_31 = told.number == 28 && told.record == 34 && count(text) > 34;
+            match at_31 && String::from_utf8_lossy(text).contains(",31") {
+                true => cannot_stand(35),
+                false => told,
+            }
+        })
+    }),
+];
+
+const ANSWERS: &[ImportFault] = &[
+    ("the record counted from 0", |text, out| {
+        refused(text, out, |told, _| Imported {
+            record: told.record.saturating_sub(1),
+            ..told
+        })
+    }),
+    ("the header not counted", |text, out| {
+        refused(text, out, |told, _| Imported {
+            record: told.record.max(2) - 1,
+            ..told
+        })
+    }),
+    ("an empty text lacks record 0", |text, out| {
+        refused(text, out, |told, text| match text {
+            b"" => cannot_stand(0),
+            _ => told,
+        })
+    }),
+    ("an empty text is an empty sheet", |text, out| match text {
+        b"" => Imported::default(),
+        _ => model::import(text, out),
+    }),
+    ("what is missing named by the last there", |text, out| {
+        refused(text, out, |told, text| {
+            match told.number == 28 && told.record as usize > count(text) {
+                true => cannot_stand(count(text) as u64),
+                false => told,
+            }
+        })
+    }),
+    ("the last wrong record named", |text, out| {
+        refused(text, out, |told, text| match told.number {
+            28 => cannot_stand(told.record.max(count(text) as u64)),
+            _ => told,
+        })
+    }),
+    ("18 before 28", |text, out| {
+        refused(text, out, |told, text| match count(text) > 3_900 {
+            true => Imported {
+                number: 18,
+                ..Imported::default()
+            },
+            false => told,
+        })
+    }),
+    ("only 3,781 events looked at", |text, out| {
+        let row = |row: &&[u8]| row.len() + 1;
+        let rows: Vec<&[u8]> = text.split(|&byte| byte == b'\n').collect();
+        match rows.len() > 3_900 {
+            true => {
+                let length: usize = rows[..3_850].iter().map(row).sum();
+                model::import(&text[..length], out)
+            }
+            false => model::import(text, out),
+        }
+    }),
+    ("21 before 28", |text, out| {
+        refused(text, out, |told, _| told).with_21(out.len() < 512)
+    }),
+    ("21 before 18", |text, out| {
+        let told = model::import(text, out);
+        let short = told.number == 18 && out.len() < 32_768;
+        told.with_21(short)
+    }),
+    ("18 names a record", |text, out| {
+        refused(text, out, |told, _| match told.number {
+            18 => Imported {
+                record: 3_785,
+                ..told
+            },
+            _ => told,
+        })
+    }),
+    ("21 names a record", |text, out| {
+        refused(text, out, |told, text| match told.number {
+            21 => Imported {
+                record: count(text) as u64,
+                ..told
+            },
+            _ => told,
+        })
+    }),
+    ("3,780 events are too many", |text, out| {
+        let mut tried = out.to_vec();
+        let told = model::import(text, &mut tried);
+        match told.bytes == sheet_length(3_780) {
+            true => Imported {
+                number: 18,
+                ..Imported::default()
+            },
+            false => model::import(text, out),
+        }
+    }),
+    ("a record of 8 bits", |text, out| {
+        refused(text, out, |told, _| Imported {
+            record: told.record % 256,
+            ..told
+        })
+    }),
+];
+
+/// A refusal of another sort put in.
+trait With21 {
+    fn with_21(self, so: bool) -> Self;
+}
+
+impl With21 for Imported {
+    fn with_21(self, so: bool) -> Self {
+        match so {
+            true => Imported {
+                number: 21,
+                ..Imported::default()
+            },
+            false => self,
+        }
+    }
+}
+
+const OUTPUTS: &[ImportFault] = &[
+    ("output touched on a refusal", |text, out| {
+        let told = model::import(text, out);
+        if told.number == 28 && out.len() >= 512 && told.record > 4 {
+            out[0] = 1;
+        }
+        told
+    }),
+    ("output cleared before 21", |text, out| {
+        let told = model::import(text, out);
+        if told.number == 21 {
+            out.fill(0);
+        }
+        told
+    }),
+    ("output filled before 18", |text, out| {
+        let told = model::import(text, out);
+        if told.number == 18 {
+            out.fill(0);
+        }
+        told
+    }),
+    ("past the sheet cleared", |text, out| {
+        let told = model::import(text, out);
+        if told.number == 0 {
+            out[told.bytes..].fill(0);
+        }
+        told
+    }),
+    ("an output that just fits refused", |text, out| {
+        let mut tried = out.to_vec();
+        let told = model::import(text, &mut tried);
+        if told.number == 0 && told.bytes == out.len() {
+            return told.with_21(true);
+        }
+        model::import(text, out)
+    }),
+    ("bytes of a refusal", |text, out| {
+        refused(text, out, |told, _| Imported { bytes: 512, ..told })
+    }),
+    ("bytes one block less", |text, out| {
+        let told = model::import(text, out);
+        Imported {
+            bytes: told.bytes.max(512) - 512,
+            ..told
+        }
+    }),
+    ("answers not taken over", |text, out| {
+        let told = model::import(text, out);
+        for at in (512..told.bytes).step_by(512) {
+            for word in (4..484).step_by(8) {
+                out[at + word + 1] |= 0xF8;
+            }
+            model::renew_check(&mut out[at..at + 512], (at / 512) as u32);
+        }
+        told
+    }),
+];
+
+/// The model's text, changed so, where there is room for it.
+fn rewritten(sheet: &[u8], out: &mut [u8], change: impl Fn(&str) -> String) -> Exported {
+    let mut tried = vec![0; 4 * sheet.len()];
+    let told = model::export(sheet, &mut tried);
+    if told.number != 0 {
+        return model::export(sheet, out);
+    }
+    let text = change(&String::from_utf8_lossy(&tried[..told.bytes])).into_bytes();
+    if out.len() < text.len() {
+        return Exported {
+            number: 21,
+            ..Exported::default()
+        };
+    }
+    out[..text.len()].copy_from_slice(&text);
+    Exported {
+        bytes: text.len(),
+        ..told
+    }
+}
+
+const EXPORTS: &[ExportFault] = &[
+    ("LF for CR LF", |sheet, out| {
+        rewritten(sheet, out, |text| text.replace(CRLF, "\n"))
+    }),
+    ("no last line end", |sheet, out| {
+        rewritten(sheet, out, |text| text.trim_end().to_string())
+    }),
+    ("a blank line at the end", |sheet, out| {
+        rewritten(sheet, out, |text| text.to_string() + CRLF)
+    }),
+    ("no header", |sheet, out| {
+        rewritten(sheet, out, |text| text[34..].to_string())
+    }),
+    ("the header quoted", |sheet, out| {
+        rewritten(sheet, out, |text| text.replace("position", "\"position\""))
+    }),
+    ("empty fields quoted", |sheet, out| {
+        rewritten(sheet, out, |text| text.replace(",,", ",\"\","))
+    }),
+    ("the start stamp in another field", |sheet, out| {
+        rewritten(sheet, out, |text| text.replacen("\r\n,,,", "\r\n,,", 1))
+    }),
+    ("an event not answered has no answer", |sheet, out| {
+        rewritten(sheet, out, |text| text.replace(",31\r\n", ",\r\n"))
+    }),
+    ("numbers of two digits", |sheet, out| {
+        rewritten(sheet, out, |text| text.replace(",0,", ",00,"))
+    }),
+    ("a large stamp below zero", |sheet, out| {
+        rewritten(sheet, out, |text| text.replace("4294967295", "-1"))
+    }),
+    ("21 before those of reading", |sheet, out| {
+        let told = model::export(sheet, out);
+        match told.number != 0 && out.is_empty() {
+            true => Exported {
+                number: 21,
+                ..Exported::default()
+            },
+            false => told,
+        }
+    }),
+    ("21 with a block", |sheet, out| {
+        match model::export(sheet, out) {
+            told if told.number == 21 => Exported { block: 1, ..told },
+            told => told,
+        }
+    }),
+    ("the block not named", |sheet, out| Exported {
+        block: 0,
+        ..model::export(sheet, out)
+    }),
+    ("bytes of a refusal", |sheet, out| {
+        match model::export(sheet, out) {
+            told if told.number != 0 => Exported { bytes: 34, ..told },
+            told => told,
+        }
+    }),
+    ("an output that just fits refused", |sheet, out| {
+        let mut tried = out.to_vec();
+        let told = model::export(sheet, &mut tried);
+        if told.number == 0 && told.bytes == out.len() {
+            return Exported {
+                number: 21,
+                ..Exported::default()
+            };
+        }
+        model::export(sheet, out)
+    }),
+    ("as much as there is room for", |sheet, out| {
+        let mut tried = vec![0; 4 * sheet.len()];
+        let told = model::export(sheet, &mut tried);
+        let bytes = told.bytes.min(out.len());
+        out[..bytes].copy_from_slice(&tried[..bytes]);
+        match bytes < told.bytes {
+            true => model::export(sheet, &mut []),
+            false => told,
+        }
+    }),
+    ("past the text cleared", |sheet, out| {
+        let told = model::export(sheet, out);
+        if told.number == 0 {
+            out[told.bytes..].fill(0);
+        }
+        told
+    }),
+    ("a worked sheet refused", |sheet, out| {
+        let worked = model::work(sheet, &mut vec![0; sheet.len()]);
+        match worked.number {
+            0 => model::export(sheet, out),
+            number => Exported {
+                number,
+                block: worked.block,
+                bytes: 0,
+            },
+        }
+    }),
+];
+
+fn all_found(faults: &[ImportFault]) {
+    for (name, fault) in faults {
+        must_differ_on(&IMPORTING, name, Imports(*fault));
+    }
+}
+
+#[test]
+fn wrong_line_ends_are_found() {
+    all_found(LINE_ENDS);
+}
+
+#[test]
+fn wrong_quotes_are_found() {
+    all_found(QUOTES);
+}
+
+#[test]
+fn wrong_fields_are_found() {
+    all_found(FIELDS);
+}
+
+#[test]
+fn a_wrong_order_is_found() {
+    all_found(ORDER);
+}
+
+#[test]
+fn wrong_answers_are_found() {
+    all_found(ANSWERS);
+}
+
+#[test]
+fn wrong_outputs_are_found() {
+    all_found(OUTPUTS);
+}
+
+#[test]
+fn wrong_exports_are_found() {
+    for (name, fault) in EXPORTS {
+        must_differ_on(&EXPORTING, name, Exports(*fault));
+    }
+}
+
+/// So that what finds the faults above is the fault, and not the way it is put in.
+#[test]
+fn what_mends_nothing_is_not_found() {
+    let same: [fn(&[u8], &mut [u8]) -> Imported; 4] = [
+        |text, out| mended(text, out, str::to_string),
+        |text, out| rows(text, out, |_, _, row| row.to_string()),
+        |text, out| contents(text, out, str::to_string),
+        |text, out| refused(text, out, |told, _| told),
+    ];
+    for import in same {
+        assert!(compare_only(&IMPORTING, Imports(import)).is_ok());
+    }
+    let same = Exports(|sheet, out| rewritten(sheet, out, str::to_string));
+    assert!(compare_only(&EXPORTING, same).is_ok());
+}
+
+/// After each misprint the record that has it can't stand, and those before it can.
+#[test]
+fn each_misprint_is_named() {
+    for (variety, name) in names().iter().enumerate() {
+        for index in 0..300 {
+            let mut random = Random::of_case(7, variety as u64, index);
+            let (text, record) = misprinted(&mut random, variety);
+            let bytes = text.bytes();
+            let told = model::import(&bytes, &mut []);
+            let shown = String::from_utf8_lossy(&bytes);
+            assert_eq!(told, cannot_stand(record as u64), "{name}: {shown:?}");
+        }
+    }
+}
