@@ -10,6 +10,7 @@ mod describe;
 pub mod desk;
 pub mod failing;
 pub mod fixed;
+pub mod fixed_texts;
 pub mod full;
 pub mod histories;
 pub mod long_texts;

@@ -404,12 +404,14 @@ const ORDER: &[ImportFault] = &[
             _ => field.to_string(),
         })
     }),
-    ("a table without an end let in", |text, out| {
-        let told = model::import(text, out);
-        let ended = told.number == 28 && told.record as usize > count(text) && told.record > 4;
-        match ended {
-            true => model::import(b"", out),
-            false => told,
+    ("a table without an end ended by the desk", |text, out| {
+        let told = model::import(text, &mut []);
+        match told.number == 28 && told.record as usize > count(text) && told.record > 3 {
+            true => mended(text, out, |text| {
+                let post = told.record - 3;
+                format!("{}\r\n,1,{post},,", text.strip_suffix(CRLF).unwrap_or(text))
+            }),
+            false => model::import(text, out),
         }
     }),
     ("a table of 32 posts refused at post 31", |text, out| {
