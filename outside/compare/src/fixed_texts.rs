@@ -113,7 +113,7 @@ const WRONG: &[(&str, &str, &str, &str)] = &[
     ("import: a byte", paper::REGISTER, "p", "refused 28 1\n"),
     (
         "import: the header alone",
-        &paper::REGISTER,
+        paper::REGISTER,
         "position,event,post,stamp,answer",
         "refused 28 2\n",
     ),
@@ -214,57 +214,44 @@ const PIECES: [usize; 7] = [65_536, 4_096, 511, 65_535, 512, 30_000, 4_097];
 /// So many events that a position has more than 16 bits.
 const EVENTS: usize = 70_000;
 
-/// Texts over 1 MB, and what is said of each: right ones hold too much, others are wrong,
-/// most of them at their end.
-fn long_texts() -> Vec<(&'static str, Vec<u8>, &'static str)> {
+/// A text, and what is said of it.
+type Long = (&'static str, Vec<u8>, &'static str);
+
+/// Texts over 1 MB that are right but for their end, if they are: right ones hold too much.
+fn wrong_at_their_end() -> Vec<Long> {
     let right = long_text(EVENTS);
     let and = |tail: &str| [&right[..], tail.as_bytes()].concat();
-    let header = paper::REGISTER.split_inclusive('\n').next().unwrap_or("");
-    let digits = "1".repeat(1_200_000);
+    let wrong = |name, tail| (name, and(tail), "refused 28 70005\n");
     vec![
         ("right", right.clone(), "refused 18 0\n"),
         ("no last line end", and("70001,1,0,0,31"), "refused 18 0\n"),
-        (
-            "a wrong answer",
-            and("70001,1,0,0,32\r\n"),
-            "refused 28 70005\n",
-        ),
-        (
-            "a position of 16 bits",
-            and("4465,1,0,0,31\r\n"),
-            "refused 28 70005\n",
-        ),
-        ("a blank line", and("\r\n"), "refused 28 70005\n"),
-        ("a lone CR", and("\r"), "refused 28 70005\n"),
-        ("a lone LF", and("70001,1,0,0,31\n"), "refused 28 70005\n"),
-        (
-            "a quote never closed",
-            and("\"70001\",1,0,0,\"31"),
-            "refused 28 70005\n",
-        ),
-        (
-            "a quote at the front",
-            [b"\"", &right[..]].concat(),
-            "refused 28 1\n",
-        ),
-        (
-            "right twice",
-            and(&String::from_utf8_lossy(&right)),
-            "refused 28 70005\n",
-        ),
-        (
-            "1,200,000 digits",
-            format!("{header},,,{digits},\r\n").into_bytes(),
-            "refused 28 2\n",
-        ),
-        (
+        wrong("a wrong answer", "70001,1,0,0,32\r\n"),
+        wrong("a position of 16 bits", "4465,1,0,0,31\r\n"),
+        wrong("a blank line", "\r\n"),
+        wrong("a lone CR", "\r"),
+        wrong("a lone LF", "70001,1,0,0,31\n"),
+        wrong("a quote never closed", "\"70001\",1,0,0,\"31"),
+        wrong("right twice", &String::from_utf8_lossy(&right)),
+    ]
+}
+
+/// Texts over 1 MB that are wrong from the first or the second record on.
+fn wrong_from_their_front() -> Vec<Long> {
+    let header = paper::REGISTER.split_inclusive('\n').next().unwrap_or("");
+    let digits = "1".repeat(1_200_000);
+    let quoted = [b"\"", &long_text(EVENTS)[..]].concat();
+    let first = |name, text| (name, text, "refused 28 1\n");
+    let second = |name, text: String| (name, text.into_bytes(), "refused 28 2\n");
+    vec![
+        second("1,200,000 digits", format!("{header},,,{digits},\r\n")),
+        second(
             "1,200,000 digits between quotes",
-            format!("{header},,,\"{digits}\",\r\n").into_bytes(),
-            "refused 28 2\n",
+            format!("{header},,,\"{digits}\",\r\n"),
         ),
-        ("line ends alone", b"\r\n".repeat(600_000), "refused 28 1\n"),
-        ("commas alone", vec![b','; 1_200_000], "refused 28 1\n"),
-        ("quotes alone", vec![b'"'; 1_200_001], "refused 28 1\n"),
+        first("a quote at the front", quoted),
+        first("line ends alone", b"\r\n".repeat(600_000)),
+        first("commas alone", vec![b','; 1_200_000]),
+        first("quotes alone", vec![b'"'; 1_200_001]),
     ]
 }
 
@@ -284,7 +271,7 @@ fn check(
 
 /// Each long text in pieces of some size.
 pub fn check_long_texts(command: &[String]) -> Result<usize, String> {
-    let long = long_texts();
+    let long = [wrong_at_their_end(), wrong_from_their_front()].concat();
     for ((name, text, said), pieces) in long.iter().zip(PIECES.iter().cycle()) {
         check(command, name, text, *pieces, &Wrote::saying(said))?;
     }

@@ -58,8 +58,8 @@ pub const MISPRINTS: &[Misprint] = &[
     }),
     ("doubled quotes in a quoted field", |random, text, at| {
         let field = some_field(random, text, at);
-        let bare = inside(field);
-        *field = quoted(&random.pick(&[format!("{bare}\"\""), format!("\"\"{bare}")].each_ref()));
+        let before = random.chance(50);
+        *field = quoted(&beside(inside(field), "\"\"", before));
     }),
     ("a comma in a quoted field", |random, text, at| {
         let fields = &mut text.records[at].fields;

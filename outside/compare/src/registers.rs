@@ -156,7 +156,7 @@ impl Import {
             records: rows.len(),
             posts,
             fields,
-            quoted: (quotes % 2 == 0).then_some(quotes / 2),
+            quoted: quotes.is_multiple_of(2).then_some(quotes / 2),
             room,
             number: reply[0],
             record: u64::from(reply[1]) | u64::from(reply[2]) << 32,

@@ -118,26 +118,35 @@ impl Request {
                 let out = [size(*out_len), u32::from(*fill)];
                 joined(&front, &[&out, kinds, &events.concat()])
             }
+            Request::Why { sheet, position } => {
+                joined(&[8, size(sheet.len()), *position], &[&padded(sheet)])
+            }
+            _ => self.made_words(),
+        }
+    }
+
+    /// The same for the calls that make bytes of bytes.
+    fn made_words(&self) -> Vec<u32> {
+        let (call, bytes, out_len, fill) = match self {
             Request::Work {
                 sheet,
                 out_len,
                 fill,
-            } => made_words(6, sheet, *out_len, *fill),
+            } => (6, sheet, *out_len, *fill),
             Request::Export {
                 sheet,
                 out_len,
                 fill,
-            } => made_words(9, sheet, *out_len, *fill),
+            } => (9, sheet, *out_len, *fill),
             Request::Import {
                 text,
                 out_len,
                 fill,
-            } => made_words(10, text, *out_len, *fill),
-            Request::Why { sheet, position } => {
-                joined(&[8, size(sheet.len()), *position], &[&padded(sheet)])
-            }
-            _ => Vec::new(),
-        }
+            } => (10, text, *out_len, *fill),
+            _ => return Vec::new(),
+        };
+        let front = [call, bytes.len() as u32, out_len as u32, u32::from(fill)];
+        joined(&front, &[&padded(bytes)])
     }
 
     /// How many words of a reply tell how long it is in all.
@@ -168,12 +177,6 @@ impl Request {
             Request::Import { out_len, .. } => 5 + out_len.div_ceil(4),
         }
     }
-}
-
-/// The words of a call that makes bytes of bytes.
-fn made_words(call: u32, bytes: &[u8], out_len: usize, fill: u8) -> Vec<u32> {
-    let front = [call, bytes.len() as u32, out_len as u32, u32::from(fill)];
-    joined(&front, &[&padded(bytes)])
 }
 
 fn joined(front: &[u32], parts: &[&[u32]]) -> Vec<u32> {

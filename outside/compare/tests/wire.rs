@@ -175,8 +175,7 @@ fn a_program_with_wrong_jams_is_found() {
 }
 
 #[test]
-fn a_program_with_wrong_registers_is_found() {
-    let taken_for = |words, others| but_for(words, &format!("set -- {others}; DESK"));
+fn a_program_with_wrong_exports_is_found() {
     must_be_found(&[
         (but_for("export", "DESK | tr -d '\\r'"), "export: the paper"),
         (but_for("export", "DESK 2>&1"), "export: empty input"),
@@ -188,6 +187,12 @@ fn a_program_with_wrong_registers_is_found() {
             but_for("export", "head -c 32768 | DESK"),
             "export: 33,280 bytes",
         ),
+    ]);
+}
+
+#[test]
+fn a_program_with_wrong_imports_is_found() {
+    must_be_found(&[
         (but_for("import", "DESK 2>/dev/null"), "import: nothing"),
         (
             but_for("import", "tr -d '\"' | DESK"),
@@ -225,7 +230,13 @@ fn a_program_with_wrong_registers_is_found() {
             ),
             "import: nothing",
         ),
-        // Words that are not tested as they should be.
+    ]);
+}
+
+#[test]
+fn a_program_with_wrong_words_of_registers_is_found() {
+    let taken_for = |words, others| but_for(words, &format!("set -- {others}; DESK"));
+    must_be_found(&[
         (taken_for("'export x'", "export"), "[\"export\", \"x\"]"),
         (taken_for("'import '", "import"), "[\"import\", \"\"]"),
         // What is wrong from its start on is not read on.

@@ -21,7 +21,7 @@ const IMPORTING: [&str; 5] = [
 const EXPORTING: [&str; 1] = ["exporting"];
 
 /// A desk that imports by this.
-struct Imports(fn(&[u8], &mut [u8]) -> Imported);
+struct Imports(Import);
 
 impl Desk for Imports {
     fn import(&mut self, text: &[u8], out: &mut [u8]) -> Imported {
@@ -38,7 +38,8 @@ impl Desk for Exports {
     }
 }
 
-type ImportFault = (&'static str, fn(&[u8], &mut [u8]) -> Imported);
+type Import = fn(&[u8], &mut [u8]) -> Imported;
+type ImportFault = (&'static str, Import);
 type ExportFault = (&'static str, fn(&[u8], &mut [u8]) -> Exported);
 
 /// The text as this desk takes it: bytes as characters, so that any can be looked at.
@@ -777,7 +778,7 @@ fn wrong_exports_are_found() {
 /// So that what finds the faults above is the fault, and not the way it is put in.
 #[test]
 fn what_mends_nothing_is_not_found() {
-    let same: [fn(&[u8], &mut [u8]) -> Imported; 4] = [
+    let same: [Import; 4] = [
         |text, out| mended(text, out, str::to_string),
         |text, out| rows(text, out, |_, _, row| row.to_string()),
         |text, out| contents(text, out, str::to_string),
