@@ -30,7 +30,7 @@
 #include "desk.h"
 
 enum {
-    MOST_POSTS = 64, MOST_ENTRIES = 4096, MOST_BYTES = 1 << 20,
+    MOST_POSTS = 64, MOST_ENTRIES = 4096, MOST_BYTES = 1 << 21,
     CANARY = 64, CANARY_BYTE = 0xA5,
     GUARD = 65536 /* no machine's pages are larger */
 };

@@ -1,4 +1,5 @@
-//! The heavy ones: registers of 3,780 events, of one more, and of 10,000 and a wrong one.
+//! The heavy ones: registers of 3,780 events, of one more, of 10,000 and a wrong one, and of
+//! more than 16 bits can count.
 
 use model::MOST_EVENTS;
 
@@ -47,6 +48,14 @@ pub const LONG: &[Variety] = &[
         let mut bytes = written(random, 10_000).bytes();
         bytes.extend_from_slice(b"\r\n");
         import(random, bytes, MOST_EVENTS, 0)
+    }),
+    ("more than 2^16 events and a wrong one", |random| {
+        let count = 65_536 + random.between(1, 3_000);
+        let mut text = Text::of(&any_sheet(random, count));
+        let at = 1 + text.posts + count;
+        // What the position would be if it were counted in 16 bits.
+        text.records[at].fields[0] = (count - 65_536).to_string();
+        import(random, text.bytes(), MOST_EVENTS, 0)
     }),
     ("a quote never closed before 3,781 events", |random| {
         let mut text = written(random, MOST_EVENTS + 1);

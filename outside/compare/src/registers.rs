@@ -87,6 +87,9 @@ pub const LONG: &[Wanted<Import>] = &[
     ("28 at event 10,001", |i| {
         i.wrong() == Some(Named::Event(10_001))
     }),
+    ("28 past event 2^16", |i| {
+        matches!(i.wrong(), Some(Named::Event(65_537..)))
+    }),
     ("28 before event 3,780, and more than 3,780", |i| {
         let early = |named| matches!(named, Named::Event(at) if at < MOST_EVENTS);
         i.wrong().is_some_and(early) && i.events() > MOST_EVENTS

@@ -381,6 +381,15 @@ const ORDER: &[ImportFault] = &[
             _ => field.to_string(),
         })
     }),
+    ("position carried round at 2^16", |text, out| {
+        fields(text, out, |at, posts, place, field| match (posts, place) {
+            (1.., 0) if at - 1 - posts > 65_535 => match inside(field).parse::<usize>() {
+                Ok(number) if number == (at - 1 - posts) % 65_536 => (at - 1 - posts).to_string(),
+                _ => field.to_string(),
+            },
+            _ => field.to_string(),
+        })
+    }),
     ("event 32 let in", |text, out| up_to(text, out, 1, "32")),
     ("post 64 let in", |text, out| up_to(text, out, 2, "64")),
     ("stamp 2^32 let in", |text, out| {
@@ -528,6 +537,12 @@ const ANSWERS: &[ImportFault] = &[
             },
             false => model::import(text, out),
         }
+    }),
+    ("a record of 16 bits", |text, out| {
+        refused(text, out, |told, _| Imported {
+            record: told.record % 65_536,
+            ..told
+        })
     }),
     ("a record of 8 bits", |text, out| {
         refused(text, out, |told, _| Imported {

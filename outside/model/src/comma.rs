@@ -50,7 +50,8 @@ fn field(text: &[u8]) -> Option<(Field, &[u8])> {
 
 /// `escaped = DQUOTE *(TEXTDATA / COMMA / CR / LF / 2DQUOTE) DQUOTE`, from behind its
 /// first quote: up to the quote that no other follows; two stand for one. Nothing if it
-/// is never closed.
+/// is never closed. What else may stand between quotes is not asked: a byte that the rule
+/// does not have is in no right field.
 fn escaped(mut text: &[u8]) -> Option<(Field, &[u8])> {
     let mut content = Vec::new();
     loop {
