@@ -85,7 +85,7 @@ fn wrong(random: &mut Random, count: usize, position: usize) -> Request {
     let mut text = written(random, count);
     let at = 1 + text.posts + position;
     match random.below(4) {
-        0 => text.records[at].end = "\n",
+        0 => text.records[at].end = random.pick(&["\n", "\r"]),
         1 => alter(&mut text.records[at].fields[4], |_| "32".to_string()),
         2 => alter(&mut text.records[at].fields[0], |bare| format!("0{bare}")),
         _ => text.records[at].fields.push(String::new()),

@@ -94,12 +94,13 @@ pub const MISPRINTS: &[Misprint] = &[
     ("an unused field used", |random, text, at| {
         let more = random.pick(&["0", "1", "x"]);
         let fields = &mut text.records[at].fields;
-        // A record that uses all its fields has one that says more than it may.
-        let empty = fields.iter().position(|field| inside(field).is_empty());
-        let any = random.below(fields.len());
-        alter(&mut fields[empty.unwrap_or(any)], |bare| {
-            format!("{bare}{more}x")
-        });
+        let unused = |field: &&mut String| inside(field).is_empty();
+        let mut unused: Vec<&mut String> = fields.iter_mut().filter(unused).collect();
+        match unused.len() {
+            // A record that uses all its fields has one that says more than it may.
+            0 => alter(some_field(random, text, at), |bare| format!("{bare}x")),
+            count => alter(unused[random.below(count)], |_| more.to_string()),
+        }
     }),
     ("a space or a tab", |random, text, at| {
         let space = random.pick(&[" ", " ", "\t", "\u{a0}"]);

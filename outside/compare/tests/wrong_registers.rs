@@ -49,46 +49,34 @@ fn mended(text: &[u8], out: &mut [u8], mend: impl Fn(&str) -> String) -> Importe
     model::import(&mended, out)
 }
 
-/// Each row mended, by its place from 0 and whether it stands behind the table.
-fn rows(text: &[u8], out: &mut [u8], mend: fn(usize, usize, &str) -> String) -> Imported {
-    mended(text, out, |text| {
-        let mut posts = 0;
-        let mut row = |(at, row): (usize, &str)| {
-            let is_post = at > 1 && posts == 0;
-            let new = mend(at, posts, row);
-            let ends = new
-                .split(',')
-                .nth(1)
-                .is_some_and(|kind| inside(kind) == "1");
-            if is_post && ends {
-                posts = at - 1;
-            }
-            new
-        };
-        let rows: Vec<String> = text.split(CRLF).enumerate().map(&mut row).collect();
-        rows.join(CRLF)
-    })
-}
-
-/// Each field mended, by the record's place, how many posts stand before it if it is an
-/// event (else 0), and the field's place.
-fn fields(
-    text: &[u8],
-    out: &mut [u8],
-    mend: impl Fn(usize, usize, usize, &str) -> String + Copy,
-) -> Imported {
+/// Each row mended, by its place from 0 and how many posts stand before it if it is an event
+/// (else 0).
+fn rows(text: &[u8], out: &mut [u8], mend: impl Fn(usize, usize, &str) -> String) -> Imported {
     mended(text, out, |text| {
         let mut posts = 0;
         let mut rows = Vec::new();
         for (at, row) in text.split(CRLF).enumerate() {
-            let field = |(place, field): (usize, &str)| mend(at, posts, place, field);
-            let row: Vec<String> = row.split(',').enumerate().map(field).collect();
-            if at > 1 && posts == 0 && row.get(1).is_some_and(|kind| inside(kind) == "1") {
+            let row = mend(at, posts, row);
+            let kind = row.split(',').nth(1).map(inside);
+            if at > 1 && posts == 0 && kind == Some("1") {
                 posts = at - 1;
             }
-            rows.push(row.join(","));
+            rows.push(row);
         }
         rows.join(CRLF)
+    })
+}
+
+/// Each field mended, by its record as above and its own place.
+fn fields(
+    text: &[u8],
+    out: &mut [u8],
+    mend: impl Fn(usize, usize, usize, &str) -> String,
+) -> Imported {
+    rows(text, out, |at, posts, row| {
+        let field = |(place, field): (usize, &str)| mend(at, posts, place, field);
+        let fields: Vec<String> = row.split(',').enumerate().map(field).collect();
+        fields.join(",")
     })
 }
 
@@ -119,10 +107,29 @@ fn no_zeros(digits: &str) -> String {
     }
 }
 
+/// A number that is written as it should be, so that no other fault is mended with one.
+fn plain(digits: &str) -> Option<u128> {
+    let number: u128 = digits.parse().ok()?;
+    (number.to_string() == digits).then_some(number)
+}
+
 /// A number carried round.
 fn round(digits: &str, at: u128) -> String {
-    let number: Result<u128, _> = digits.parse();
-    number.map_or(digits.to_string(), |number| (number % at).to_string())
+    plain(digits).map_or(digits.to_string(), |number| (number % at).to_string())
+}
+
+/// The field of an event's position, right where it is the same as the right one when both
+/// are carried round.
+fn position_round(text: &[u8], out: &mut [u8], turn: u128) -> Imported {
+    fields(text, out, |at, posts, place, field| {
+        let right = (at as u128).wrapping_sub(1 + posts as u128);
+        match plain(inside(field)) {
+            Some(number) if posts > 0 && place == 0 && number % turn == right % turn => {
+                right.to_string()
+            }
+            _ => field.to_string(),
+        }
+    })
 }
 
 /// 28 at this record.
@@ -131,6 +138,20 @@ fn cannot_stand(record: u64) -> Imported {
         number: 28,
         record,
         bytes: 0,
+    }
+}
+
+fn too_short() -> Imported {
+    Imported {
+        number: 21,
+        ..Imported::default()
+    }
+}
+
+fn too_long() -> Imported {
+    Imported {
+        number: 18,
+        ..Imported::default()
     }
 }
 
@@ -256,6 +277,21 @@ const QUOTES: &[ImportFault] = &[
     }),
 ];
 
+/// Unused fields of the start stamp and of posts emptied, where what they have is such.
+fn unused(text: &[u8], out: &mut [u8], such: fn(&str) -> bool) -> Imported {
+    fields(text, out, |at, posts, place, field| {
+        let used: &[usize] = match (at, posts) {
+            (0, _) | (_, 1..) => &[0, 1, 2, 3, 4],
+            (1, _) => &[3],
+            _ => &[1, 2],
+        };
+        match used.contains(&place) || place > 4 || !such(inside(field)) {
+            true => field.to_string(),
+            false => String::new(),
+        }
+    })
+}
+
 const FIELDS: &[ImportFault] = &[
     ("a leading zero let in", |text, out| {
         contents(text, out, no_zeros)
@@ -312,17 +348,10 @@ const FIELDS: &[ImportFault] = &[
         })
     }),
     ("an unused field not looked at", |text, out| {
-        fields(text, out, |at, posts, place, field| {
-            let used: &[usize] = match (at, posts) {
-                (0, _) | (_, 1..) => &[0, 1, 2, 3, 4],
-                (1, _) => &[3],
-                _ => &[1, 2],
-            };
-            match used.contains(&place) || place > 4 {
-                true => field.to_string(),
-                false => String::new(),
-            }
-        })
+        unused(text, out, |_| true)
+    }),
+    ("a number in an unused field let in", |text, out| {
+        unused(text, out, |bare| plain(bare).is_some())
     }),
     ("a sixth field let in", |text, out| {
         rows(text, out, |_, _, row| {
@@ -362,33 +391,24 @@ const ORDER: &[ImportFault] = &[
         })
     }),
     ("positions from 0", |text, out| {
-        fields(text, out, |_, posts, place, field| match (posts, place) {
-            (1.., 0) => match inside(field).parse::<u64>() {
-                Ok(number) => (number + 1).to_string(),
-                Err(_) => field.to_string(),
-            },
-            _ => field.to_string(),
+        fields(text, out, |_, posts, place, field| {
+            match plain(inside(field)) {
+                Some(number) if posts > 0 && place == 0 => (number + 1).to_string(),
+                _ => field.to_string(),
+            }
         })
     }),
     ("position carried round at 256", |text, out| {
-        fields(text, out, |at, posts, place, field| match (posts, place) {
-            (1.., 0) => match inside(field).parse::<usize>() {
-                Ok(number) if number % 256 == (at - 1 - posts) % 256 => {
-                    (at - 1 - posts).to_string()
-                }
-                _ => field.to_string(),
-            },
-            _ => field.to_string(),
-        })
+        position_round(text, out, 1 << 8)
     }),
     ("position carried round at 2^16", |text, out| {
-        fields(text, out, |at, posts, place, field| match (posts, place) {
-            (1.., 0) if at - 1 - posts > 65_535 => match inside(field).parse::<usize>() {
-                Ok(number) if number == (at - 1 - posts) % 65_536 => (at - 1 - posts).to_string(),
-                _ => field.to_string(),
-            },
-            _ => field.to_string(),
-        })
+        position_round(text, out, 1 << 16)
+    }),
+    ("position carried round at 2^32", |text, out| {
+        position_round(text, out, 1 << 32)
+    }),
+    ("position carried round at 2^64", |text, out| {
+        position_round(text, out, 1 << 64)
     }),
     ("event 32 let in", |text, out| up_to(text, out, 1, "32")),
     ("post 64 let in", |text, out| up_to(text, out, 2, "64")),
@@ -483,10 +503,7 @@ const ANSWERS: &[ImportFault] = &[
     }),
     ("18 before 28", |text, out| {
         refused(text, out, |told, text| match count(text) > 3_900 {
-            true => Imported {
-                number: 18,
-                ..Imported::default()
-            },
+            true => too_long(),
             false => told,
         })
     }),
@@ -502,12 +519,18 @@ const ANSWERS: &[ImportFault] = &[
         }
     }),
     ("21 before 28", |text, out| {
-        refused(text, out, |told, _| told).with_21(out.len() < 512)
+        let told = model::import(text, out);
+        match told.number == 28 && out.len() < 512 {
+            true => too_short(),
+            false => told,
+        }
     }),
     ("21 before 18", |text, out| {
         let told = model::import(text, out);
-        let short = told.number == 18 && out.len() < 32_768;
-        told.with_21(short)
+        match told.number == 18 && out.len() < 32_768 {
+            true => too_short(),
+            false => told,
+        }
     }),
     ("18 names a record", |text, out| {
         refused(text, out, |told, _| match told.number {
@@ -531,10 +554,7 @@ const ANSWERS: &[ImportFault] = &[
         let mut tried = out.to_vec();
         let told = model::import(text, &mut tried);
         match told.bytes == sheet_length(3_780) {
-            true => Imported {
-                number: 18,
-                ..Imported::default()
-            },
+            true => too_long(),
             false => model::import(text, out),
         }
     }),
@@ -551,23 +571,6 @@ const ANSWERS: &[ImportFault] = &[
         })
     }),
 ];
-
-/// A refusal of another sort put in.
-trait With21 {
-    fn with_21(self, so: bool) -> Self;
-}
-
-impl With21 for Imported {
-    fn with_21(self, so: bool) -> Self {
-        match so {
-            true => Imported {
-                number: 21,
-                ..Imported::default()
-            },
-            false => self,
-        }
-    }
-}
 
 const OUTPUTS: &[ImportFault] = &[
     ("output touched on a refusal", |text, out| {
@@ -602,7 +605,7 @@ const OUTPUTS: &[ImportFault] = &[
         let mut tried = out.to_vec();
         let told = model::import(text, &mut tried);
         if told.number == 0 && told.bytes == out.len() {
-            return told.with_21(true);
+            return too_short();
         }
         model::import(text, out)
     }),
