@@ -1,5 +1,5 @@
-//! Libraries that are the model with one fault about the register put in (02, item 3):
-//! each must be found by a small run. And what the makers of texts say of them.
+//! Libraries that are the model with one fault about the import of a register put in (02,
+//! item 3): each must be found by a small run. And what the makers of texts say of them.
 
 mod common;
 
@@ -8,9 +8,9 @@ use compare::desk::Desk;
 use compare::misprints::{inside, misprinted, names};
 use compare::random::Random;
 use compare::texts::CRLF;
-use model::{sheet_length, Exported, Imported};
+use model::{sheet_length, Imported};
 
-/// The sorts of cases that import, and the one that exports.
+/// The sorts of cases that import.
 const IMPORTING: [&str; 5] = [
     "right-texts",
     "misprints",
@@ -18,7 +18,6 @@ const IMPORTING: [&str; 5] = [
     "cut-texts",
     "long-texts",
 ];
-const EXPORTING: [&str; 1] = ["exporting"];
 
 /// A desk that imports by this.
 struct Imports(Import);
@@ -29,18 +28,8 @@ impl Desk for Imports {
     }
 }
 
-/// A desk that exports by this.
-struct Exports(fn(&[u8], &mut [u8]) -> Exported);
-
-impl Desk for Exports {
-    fn export(&mut self, sheet: &[u8], out: &mut [u8]) -> Exported {
-        (self.0)(sheet, out)
-    }
-}
-
 type Import = fn(&[u8], &mut [u8]) -> Imported;
 type ImportFault = (&'static str, Import);
-type ExportFault = (&'static str, fn(&[u8], &mut [u8]) -> Exported);
 
 /// The text as this desk takes it: bytes as characters, so that any can be looked at.
 fn mended(text: &[u8], out: &mut [u8], mend: impl Fn(&str) -> String) -> Imported {
@@ -312,9 +301,13 @@ const FIELDS: &[ImportFault] = &[
         contents(text, out, |bare| bare.trim_matches('\t').to_string())
     }),
     ("the header not looked at", |text, out| {
-        rows(text, out, |at, _, row| match at {
-            0 => "position,event,post,stamp,answer".to_string(),
-            _ => row.to_string(),
+        fields(text, out, |at, _, place, field| {
+            let names = ["position", "event", "post", "stamp", "answer"];
+            let is_name = inside(field).chars().all(char::is_alphanumeric);
+            match names.get(place) {
+                Some(name) if at == 0 && is_name => name.to_string(),
+                _ => field.to_string(),
+            }
         })
     }),
     ("the header's case not looked at", |text, out| {
@@ -379,16 +372,16 @@ fn up_to(text: &[u8], out: &mut [u8], field: usize, wrong: &'static str) -> Impo
 
 const ORDER: &[ImportFault] = &[
     ("kinds' posts not looked at", |text, out| {
-        fields(text, out, |at, posts, place, field| match (posts, place) {
-            (0, 2) if at > 1 => (at - 2).to_string(),
-            _ => field.to_string(),
+        fields(text, out, |at, posts, place, field| {
+            let looked_at = posts > 0 || place != 2 || at < 2 || plain(inside(field)).is_none();
+            match looked_at {
+                true => field.to_string(),
+                false => (at - 2).to_string(),
+            }
         })
     }),
     ("position not looked at", |text, out| {
-        fields(text, out, |at, posts, place, field| match (posts, place) {
-            (1.., 0) if !field.is_empty() => (at - 1 - posts).to_string(),
-            _ => field.to_string(),
-        })
+        position_round(text, out, 1)
     }),
     ("positions from 0", |text, out| {
         fields(text, out, |_, posts, place, field| {
@@ -455,8 +448,10 @@ const ORDER: &[ImportFault] = &[
     }),
     ("post 31 may go on", |text, out| {
         refused(text, out, |told, text| {
-            let at_31 = told.number == 28 && told.record == 34 && count(text) > 34;
-            match at_31 && String::from_utf8_lossy(text).contains(",31") {
+            let text = String::from_utf8_lossy(text).replace('"', "");
+            let goes_on = [",2,31,,", ",3,31,,", ",4,31,,"];
+            let last = text.split(CRLF).nth(33).unwrap_or("");
+            match told == cannot_stand(34) && goes_on.contains(&last) {
                 true => cannot_stand(35),
                 false => told,
             }
@@ -631,125 +626,6 @@ const OUTPUTS: &[ImportFault] = &[
     }),
 ];
 
-/// The model's text, changed so, where there is room for it.
-fn rewritten(sheet: &[u8], out: &mut [u8], change: impl Fn(&str) -> String) -> Exported {
-    let mut tried = vec![0; 4 * sheet.len()];
-    let told = model::export(sheet, &mut tried);
-    if told.number != 0 {
-        return model::export(sheet, out);
-    }
-    let text = change(&String::from_utf8_lossy(&tried[..told.bytes])).into_bytes();
-    if out.len() < text.len() {
-        return Exported {
-            number: 21,
-            ..Exported::default()
-        };
-    }
-    out[..text.len()].copy_from_slice(&text);
-    Exported {
-        bytes: text.len(),
-        ..told
-    }
-}
-
-const EXPORTS: &[ExportFault] = &[
-    ("LF for CR LF", |sheet, out| {
-        rewritten(sheet, out, |text| text.replace(CRLF, "\n"))
-    }),
-    ("no last line end", |sheet, out| {
-        rewritten(sheet, out, |text| text.trim_end().to_string())
-    }),
-    ("a blank line at the end", |sheet, out| {
-        rewritten(sheet, out, |text| text.to_string() + CRLF)
-    }),
-    ("no header", |sheet, out| {
-        rewritten(sheet, out, |text| text[34..].to_string())
-    }),
-    ("the header quoted", |sheet, out| {
-        rewritten(sheet, out, |text| text.replace("position", "\"position\""))
-    }),
-    ("empty fields quoted", |sheet, out| {
-        rewritten(sheet, out, |text| text.replace(",,", ",\"\","))
-    }),
-    ("the start stamp in another field", |sheet, out| {
-        rewritten(sheet, out, |text| text.replacen("\r\n,,,", "\r\n,,", 1))
-    }),
-    ("an event not answered has no answer", |sheet, out| {
-        rewritten(sheet, out, |text| text.replace(",31\r\n", ",\r\n"))
-    }),
-    ("numbers of two digits", |sheet, out| {
-        rewritten(sheet, out, |text| text.replace(",0,", ",00,"))
-    }),
-    ("a large stamp below zero", |sheet, out| {
-        rewritten(sheet, out, |text| text.replace("4294967295", "-1"))
-    }),
-    ("21 before those of reading", |sheet, out| {
-        let told = model::export(sheet, out);
-        match told.number != 0 && out.is_empty() {
-            true => Exported {
-                number: 21,
-                ..Exported::default()
-            },
-            false => told,
-        }
-    }),
-    ("21 with a block", |sheet, out| {
-        match model::export(sheet, out) {
-            told if told.number == 21 => Exported { block: 1, ..told },
-            told => told,
-        }
-    }),
-    ("the block not named", |sheet, out| Exported {
-        block: 0,
-        ..model::export(sheet, out)
-    }),
-    ("bytes of a refusal", |sheet, out| {
-        match model::export(sheet, out) {
-            told if told.number != 0 => Exported { bytes: 34, ..told },
-            told => told,
-        }
-    }),
-    ("an output that just fits refused", |sheet, out| {
-        let mut tried = out.to_vec();
-        let told = model::export(sheet, &mut tried);
-        if told.number == 0 && told.bytes == out.len() {
-            return Exported {
-                number: 21,
-                ..Exported::default()
-            };
-        }
-        model::export(sheet, out)
-    }),
-    ("as much as there is room for", |sheet, out| {
-        let mut tried = vec![0; 4 * sheet.len()];
-        let told = model::export(sheet, &mut tried);
-        let bytes = told.bytes.min(out.len());
-        out[..bytes].copy_from_slice(&tried[..bytes]);
-        match bytes < told.bytes {
-            true => model::export(sheet, &mut []),
-            false => told,
-        }
-    }),
-    ("past the text cleared", |sheet, out| {
-        let told = model::export(sheet, out);
-        if told.number == 0 {
-            out[told.bytes..].fill(0);
-        }
-        told
-    }),
-    ("a worked sheet refused", |sheet, out| {
-        let worked = model::work(sheet, &mut vec![0; sheet.len()]);
-        match worked.number {
-            0 => model::export(sheet, out),
-            number => Exported {
-                number,
-                block: worked.block,
-                bytes: 0,
-            },
-        }
-    }),
-];
-
 fn all_found(faults: &[ImportFault]) {
     for (name, fault) in faults {
         must_differ_on(&IMPORTING, name, Imports(*fault));
@@ -786,13 +662,6 @@ fn wrong_outputs_are_found() {
     all_found(OUTPUTS);
 }
 
-#[test]
-fn wrong_exports_are_found() {
-    for (name, fault) in EXPORTS {
-        must_differ_on(&EXPORTING, name, Exports(*fault));
-    }
-}
-
 /// So that what finds the faults above is the fault, and not the way it is put in.
 #[test]
 fn what_mends_nothing_is_not_found() {
@@ -805,8 +674,6 @@ fn what_mends_nothing_is_not_found() {
     for import in same {
         assert!(compare_only(&IMPORTING, Imports(import)).is_ok());
     }
-    let same = Exports(|sheet, out| rewritten(sheet, out, str::to_string));
-    assert!(compare_only(&EXPORTING, same).is_ok());
 }
 
 /// After each misprint the record that has it can't stand, and those before it can.
