@@ -74,13 +74,6 @@ impl<R: Read> Wire<R> {
         }
     }
 
-    /// What a call has that makes bytes of bytes: the bytes, its room and its fill.
-    fn made(&mut self) -> io::Result<(Vec<u8>, usize, u8)> {
-        let [bytes, out_len, fill] = self.few()?;
-        let bytes = self.bytes(bytes as usize)?;
-        Ok((bytes, out_len as usize, fill as u8))
-    }
-
     fn sheet_request(&mut self, code: u32) -> io::Result<Request> {
         match code {
             4 => {
@@ -102,35 +95,36 @@ impl<R: Read> Wire<R> {
                     fill: fill as u8,
                 })
             }
-            6 => {
-                let (sheet, out_len, fill) = self.made()?;
-                Ok(Request::Work {
-                    sheet,
-                    out_len,
-                    fill,
-                })
-            }
             8 => {
                 let [bytes, position] = self.few()?;
                 let sheet = self.bytes(bytes as usize)?;
                 Ok(Request::Why { sheet, position })
             }
-            9 => {
-                let (sheet, out_len, fill) = self.made()?;
-                Ok(Request::Export {
-                    sheet,
-                    out_len,
-                    fill,
-                })
-            }
-            10 => {
-                let (text, out_len, fill) = self.made()?;
-                Ok(Request::Import {
-                    text,
-                    out_len,
-                    fill,
-                })
-            }
+            _ => self.made_request(code),
+        }
+    }
+
+    /// The same for the calls that make bytes of bytes.
+    fn made_request(&mut self, code: u32) -> io::Result<Request> {
+        let [bytes, out_len, fill] = self.few()?;
+        let bytes = self.bytes(bytes as usize)?;
+        let (out_len, fill) = (out_len as usize, fill as u8);
+        match code {
+            6 => Ok(Request::Work {
+                sheet: bytes,
+                out_len,
+                fill,
+            }),
+            9 => Ok(Request::Export {
+                sheet: bytes,
+                out_len,
+                fill,
+            }),
+            10 => Ok(Request::Import {
+                text: bytes,
+                out_len,
+                fill,
+            }),
             _ => Err(io::ErrorKind::InvalidData.into()),
         }
     }
