@@ -27,6 +27,13 @@ extern "C" {
 enum { DESK_POSTS = 32, DESK_EVENTS = 3780, DESK_BLOCK = 512, DESK_SHEET = 32768 };
 
 /*
+ * The register of a sheet is at most DESK_TEXT bytes, CR LF counted: the header 34; the start stamp, of ten digits, 16;
+ * posts 0 to 9 8 each and posts 10 to 31 9 each; an event 22 (event, post and answer of two digits, a stamp of ten,
+ * four commas, CR LF) and the digits of its position, which are 14,013 in all for positions 1 to 3,780.
+ */
+enum { DESK_TEXT = 34 + 16 + 10 * 8 + 22 * 9 + DESK_EVENTS * 22 + 14013 };
+
+/*
  * The relays, as bits of the word of a post. DESK_JAM is up while the release button of the post is stuck; it is
  * always down at the origin, which has no such button. All other bits are zero.
  */
@@ -88,6 +95,22 @@ struct desk_since {
     uint32_t number, block, position;
 };
 
+/* What desk_export returns: 0, 0 and how many bytes the text has; or a refusal, its block and 0. */
+struct desk_exported {
+    uint32_t number, block;
+    size_t bytes;
+};
+
+/*
+ * What desk_import returns: 0, 0 and how many bytes the sheet has; or a refusal, the record that 28 names (the header
+ * is 1; 0 for 18 and 21) and 0.
+ */
+struct desk_imported {
+    uint32_t number;
+    uint64_t record;
+    size_t bytes;
+};
+
 /* An event of a sheet: its number, its post (8, 9, 10: its section), its answer (31: not yet answered), its stamp. */
 typedef uint32_t desk_entry[4];
 
@@ -147,6 +170,34 @@ struct desk_worked desk_work(const uint8_t *sheet, size_t n, uint8_t *out, size_
  * 8, 9 or 13. Writes nothing.
  */
 struct desk_since desk_why(const uint8_t *sheet, size_t n, uint32_t position);
+
+/*
+ * Writes the register of a sheet, comma-separated text by RFC 4180, to the front of `out`; the bytes past it stay.
+ * Records of five fields, each record ended by CR LF, the last one too; a field that is not used is empty, numbers are
+ * decimal without leading zeros, and nothing is quoted:
+ *     position,event,post,stamp,answer
+ *     ,,,START,                              the start stamp
+ *     ,KIND,POST,,                           one for each post, from post 0
+ *     POSITION,EVENT,POST,STAMP,ANSWER       one for each event, from position 1
+ * 18, 19 and 20 with their block as desk_test; then 21 with block 0 where out is shorter than the text, which a room of
+ * DESK_TEXT never is. A refusal leaves out as it was.
+ */
+struct desk_exported desk_export(const uint8_t *sheet, size_t n, uint8_t *out, size_t room);
+
+/*
+ * Writes the one sheet that a register says to the front of `out`: 512 bytes, and 512 for each 60 events or part of 60;
+ * the bytes past it stay. The text is of any length, and as desk_export writes it, but for this: any field may be
+ * quoted, those of the header and empty ones too, and the last line end may be left out.
+ * 28 with the number of the first record (the header is 1) that can't stand there in a right text of any length, or of
+ * the first one missing. Posts stand in order from 0; post 0 has kind 0, those between 2, 3 or 4, and a 1 ends the
+ * table, at post 31 at the latest; then positions 1, 2, 3 and on; event below 32, post below 64, stamp below 2^32,
+ * answer below 32. No record can stand in which the text breaks RFC 4180: a quote inside a field that is not quoted,
+ * anything but a comma, CR LF or the end behind a closing quote, CR or LF alone, a quote never closed. A blank line is
+ * a record, and can't stand; an empty text lacks record 1; one that ends before the table does lacks the next record.
+ * Then 18 with record 0 for more than 3,780 events, so that the whole text is looked at first; then 21 with record 0
+ * where out is shorter than the sheet, which a room of DESK_SHEET never is. A refusal leaves out as it was.
+ */
+struct desk_imported desk_import(const uint8_t *text, size_t n, uint8_t *out, size_t room);
 
 #ifdef __cplusplus
 }

@@ -7,8 +7,10 @@
  *     check, sum, copy         desk_test; a plain Rust sum of each block; memcpy of the sheet
  *     work, listing            desk_work; the Rust model's listing
  *     why, plain               desk_why and the Rust model's answer, of the last event that is refused 8, 9 or 13
+ *     export, plain_export     desk_export, and plain Rust that does the same
+ *     import, plain_import     desk_import of the sheet's register, and plain Rust that does the same
  * Prints how long the rounds took, their number, and a number made of the results of one round: it is the same for
- * ledger, tested and simple, and for why and plain.
+ * ledger, tested and simple, for why and plain, and for each of the last two pairs.
  */
 #include <stdio.h>
 #include <stdlib.h>
@@ -22,6 +24,8 @@ event_call tested_event, simple_event;
 uint32_t plain_sum(const uint8_t *block);
 size_t plain_listing(const uint8_t *sheet, size_t n, uint8_t *page, size_t room);
 uint32_t plain_why(const uint8_t *sheet, size_t n, uint32_t position);
+size_t plain_export(const uint8_t *sheet, size_t n, uint8_t *out, size_t room);
+size_t plain_import(const uint8_t *text, size_t n, uint8_t *out, size_t room);
 
 static uint8_t input[1 << 16];
 static size_t input_bytes;
@@ -31,6 +35,8 @@ static struct desk_found found;
 static uint8_t page[1 << 17];
 static uint8_t done[DESK_SHEET];
 static uint32_t last_refused;
+static uint8_t text[DESK_TEXT];
+static size_t text_bytes;
 
 static _Noreturn void fail(const char *why)
 {
@@ -91,6 +97,25 @@ static void work_once(void)
             last_refused = i + 1;
 }
 
+/* How many bytes a call made, and some of them, folded into one number. */
+static uint32_t fold(size_t bytes, const uint8_t *made)
+{
+    return bytes == 0 ? 0 : (uint32_t)bytes * 31 + made[bytes / 2] + made[bytes - 1];
+}
+
+static uint32_t round_of_register(const char *what)
+{
+    if (strcmp(what, "export") == 0)
+        return fold(desk_export(input, input_bytes, page, sizeof page).bytes, page);
+    if (strcmp(what, "plain_export") == 0)
+        return fold(plain_export(input, input_bytes, page, sizeof page), page);
+    if (strcmp(what, "import") == 0)
+        return fold(desk_import(text, text_bytes, page, sizeof page).bytes, page);
+    if (strcmp(what, "plain_import") == 0)
+        return fold(plain_import(text, text_bytes, page, sizeof page), page);
+    fail("no such figure");
+}
+
 static uint32_t round_of(const char *what)
 {
     if (strcmp(what, "ledger") == 0)
@@ -113,7 +138,7 @@ static uint32_t round_of(const char *what)
         return desk_why(done, input_bytes, last_refused).position;
     if (strcmp(what, "plain") == 0)
         return plain_why(done, input_bytes, last_refused);
-    fail("no such figure");
+    return round_of_register(what);
 }
 
 int main(int count, char **args)
@@ -131,6 +156,8 @@ int main(int count, char **args)
         fail("the input is no sheet");
     if (strcmp(args[1], "why") == 0 || strcmp(args[1], "plain") == 0)
         work_once();
+    if (strcmp(args[1], "import") == 0 || strcmp(args[1], "plain_import") == 0)
+        text_bytes = desk_export(input, input_bytes, text, sizeof text).bytes;
     clock_gettime(CLOCK_MONOTONIC, &from);
     for (long i = 0; i < rounds; i++)
         result = round_of(args[1]);

@@ -11,7 +11,10 @@
  *     7 RUN    n stamp k, n kinds, k times (number place stamp)
  *              -> START's reply, and EVENT's for each of the k, on one row that stays lent
  *     8 WHY    bytes position, bytes                          -> number block position
- * `fill` is what a lent room holds before the call.
+ *     9 EXPORT bytes room fill, bytes                         -> number block bytes, room bytes
+ *    10 IMPORT bytes room fill, bytes                         -> number record bytes, room bytes
+ * `fill` is what a lent room holds before the call. The record and the bytes that 9 and 10 return are of 64 bits each:
+ * two words, the lower one first.
  *
  * Everything lent ends where memory ends: the page behind it may not be touched. The bytes before it are a canary.
  * What is lent to be read only is compared with what it was.
@@ -27,7 +30,7 @@
 #include "desk.h"
 
 enum {
-    MOST_POSTS = 64, MOST_ENTRIES = 4096, MOST_BYTES = 65536,
+    MOST_POSTS = 64, MOST_ENTRIES = 4096, MOST_BYTES = 1 << 21,
     CANARY = 64, CANARY_BYTE = 0xA5,
     GUARD = 65536 /* no machine's pages are larger */
 };
@@ -126,6 +129,11 @@ static void give(const void *from, size_t bytes)
 static void give_word(uint32_t w)
 {
     give(&w, sizeof w);
+}
+
+static void give_long(uint64_t l)
+{
+    give(&l, sizeof l);
 }
 
 static size_t padding(size_t bytes)
@@ -227,6 +235,14 @@ static uint8_t *lend_sheet(size_t n)
     return sheet;
 }
 
+static uint8_t *lend_out(size_t room, uint32_t fill)
+{
+    uint8_t *out = lend(&out_area, room);
+
+    memset(out, (int)fill, room);
+    return out;
+}
+
 static struct desk_head take_head(void)
 {
     struct desk_head head;
@@ -318,11 +334,10 @@ static void write_sheet(void)
     uint32_t fill = word();
     uint32_t *kinds = lend_kinds(k);
     desk_entry *entries = lend(&entries_area, m * sizeof *entries);
-    uint8_t *out = lend(&out_area, room);
+    uint8_t *out = lend_out(room, fill);
 
     take(entries, m * sizeof *entries);
     keep(&entries_area);
-    memset(out, (int)fill, room);
     give_word(desk_write(kinds, k, stamp, (const desk_entry *)entries, m, out, room));
     same(&kinds_area);
     same(&entries_area);
@@ -334,11 +349,9 @@ static void work(void)
 {
     size_t n = count(MOST_BYTES), room = count(MOST_BYTES);
     uint32_t fill = word();
-    uint8_t *sheet = lend_sheet(n), *out = lend(&out_area, room);
-    struct desk_worked worked;
+    uint8_t *sheet = lend_sheet(n), *out = lend_out(room, fill);
+    struct desk_worked worked = desk_work(sheet, n, out, room);
 
-    memset(out, (int)fill, room);
-    worked = desk_work(sheet, n, out, room);
     same(&sheet_area);
     canary(&out_area);
     if (worked.row.n > DESK_POSTS)
@@ -360,6 +373,36 @@ static void why(void)
 
     same(&sheet_area);
     give(&since, sizeof since);
+}
+
+static void export_sheet(void)
+{
+    size_t n = count(MOST_BYTES), room = count(MOST_BYTES);
+    uint32_t fill = word();
+    uint8_t *sheet = lend_sheet(n), *out = lend_out(room, fill);
+    struct desk_exported exported = desk_export(sheet, n, out, room);
+
+    same(&sheet_area);
+    canary(&out_area);
+    give_word(exported.number);
+    give_word(exported.block);
+    give_long(exported.bytes);
+    give_bytes(out, room);
+}
+
+static void import_text(void)
+{
+    size_t n = count(MOST_BYTES), room = count(MOST_BYTES);
+    uint32_t fill = word();
+    uint8_t *text = lend_sheet(n), *out = lend_out(room, fill);
+    struct desk_imported imported = desk_import(text, n, out, room);
+
+    same(&sheet_area);
+    canary(&out_area);
+    give_word(imported.number);
+    give_long(imported.record);
+    give_long(imported.bytes);
+    give_bytes(out, room);
 }
 
 static void run(void)
@@ -418,7 +461,8 @@ static int guards(void)
 
 int main(int words, char **word_at)
 {
-    static void (*const calls[])(void) = {start, valid, event, read_sheet, write_sheet, work, run, why};
+    static void (*const calls[])(void) = {start, valid, event, read_sheet, write_sheet, work, run, why,
+                                          export_sheet, import_text};
 
     make(&row_area);
     make(&kinds_area);

@@ -21,8 +21,11 @@ static struct desk_verdict verdict;
 static struct desk_found found;
 static struct desk_worked worked;
 static struct desk_since since;
+static struct desk_exported exported;
+static struct desk_imported imported;
 static desk_entry entries[60];
 static uint8_t sheet[2 * DESK_BLOCK], out[2 * DESK_BLOCK];
+static uint8_t text[DESK_TEXT];
 static uint32_t number;
 
 static void nothing(void) {}
@@ -35,6 +38,9 @@ static void one_read(void) { found = desk_read(sheet, sizeof sheet, kinds, DESK_
 static void one_write(void) { number = desk_write(kinds, DESK_POSTS, 0, (const desk_entry *)entries, 60, sheet, sizeof sheet); }
 static void one_work(void) { worked = desk_work(sheet, sizeof sheet, out, sizeof out); }
 static void one_why(void) { since = desk_why(out, sizeof out, 60); }
+static void one_export(void) { exported = desk_export(out, sizeof out, text, sizeof text); }
+static void one_import(void) { imported = desk_import(text, exported.bytes, sheet, sizeof sheet); }
+static void one_wrong(void) { imported = desk_import(text, exported.bytes - 1, sheet, sizeof sheet); }
 
 /* The bytes of stack that the call alters, from the highest down. */
 static size_t used(void (*call)(void))
@@ -84,5 +90,8 @@ int main(void)
     print("desk_read", one_read, 0, &found.number);
     print("desk_work", one_work, 0, &worked.number);
     print("desk_why", one_why, 1, &since.position);
+    print("desk_export", one_export, 0, &exported.number);
+    print("desk_import", one_import, 0, &imported.number);
+    print("desk_import, refused", one_wrong, 28, &imported.number);
     return 0;
 }

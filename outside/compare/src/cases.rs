@@ -4,12 +4,14 @@ use crate::desk::{reply, Model};
 use crate::random::Random;
 use crate::request::{Reply, Request};
 use crate::variety::Variety;
-use crate::{full, histories, questions, rooms, rows, starts, writes};
+use crate::{
+    full, histories, long_texts, misprints, questions, rooms, rows, spoiled, starts, texts, writes,
+};
 
 /// A sort of cases. Its varieties take turns, so that each has its share.
 pub struct Sort {
     pub name: &'static str,
-    pub varieties: Vec<&'static str>,
+    pub varieties: Vec<String>,
     make: Maker,
 }
 
@@ -44,6 +46,7 @@ pub struct Wanted {
     pub rows: u64,
     pub sheets: u64,
     pub questions: u64,
+    pub texts: u64,
 }
 
 pub const ALTERED_ROWS: &str = "altered-rows";
@@ -52,8 +55,13 @@ pub const ALTERED_ROWS: &str = "altered-rows";
 pub fn sorts() -> Vec<Sort> {
     let each = |name, varieties: &'static [Variety]| Sort {
         name,
-        varieties: varieties.iter().map(|variety| variety.0).collect(),
+        varieties: varieties.iter().map(|v| v.0.to_string()).collect(),
         make: Maker::Each(varieties),
+    };
+    let numbered = |name, varieties, make| Sort {
+        name,
+        varieties,
+        make: Maker::Numbered(make),
     };
     vec![
         each("lively-histories", histories::LIVELY),
@@ -62,29 +70,28 @@ pub fn sorts() -> Vec<Sort> {
         each(ALTERED_ROWS, rows::ALTERED),
         each("heads", rows::HEADS),
         each("starts", starts::STARTS),
-        Sort {
-            name: "reading",
-            varieties: rooms::reading_names(),
-            make: Maker::Numbered(rooms::reading),
-        },
-        Sort {
-            name: "working",
-            varieties: rooms::working_names(),
-            make: Maker::Numbered(rooms::working),
-        },
+        numbered("reading", rooms::reading_names(), rooms::reading),
+        numbered("working", rooms::output_names(), rooms::working),
         each("writing", writes::WRITES),
         each("full-sheets", full::FULL),
         each("questions", questions::QUESTIONS),
+        each("right-texts", texts::RIGHT),
+        numbered("misprints", misprints::names(), misprints::misprint),
+        each("spoiled-texts", spoiled::SPOILED),
+        numbered("cut-texts", texts::cut_names(), texts::cut),
+        each("long-texts", long_texts::LONG),
+        numbered("exporting", rooms::output_names(), rooms::exporting),
     ]
 }
 
 /// Each sort's share, in the order of `sorts`.
-fn shares(wanted: Wanted) -> [u64; 11] {
+pub fn shares(wanted: Wanted) -> [u64; 17] {
     let Wanted {
         events,
         rows,
         sheets,
         questions,
+        texts,
     } = wanted;
     [
         events * 6 / 10,
@@ -98,6 +105,12 @@ fn shares(wanted: Wanted) -> [u64; 11] {
         sheets / 4,
         sheets / 200,
         questions,
+        texts / 4,
+        texts * 4 / 10,
+        texts / 4,
+        texts.div_ceil(10),
+        texts / 1000,
+        texts / 4,
     ]
 }
 
@@ -124,8 +137,7 @@ pub fn case(sorts: &[Sort], seed: u64, sort: usize, index: u64) -> Case {
 const TURNS: u64 = 50;
 
 /// Gives every case of a run to `sink`, until it says that it wants no more.
-pub fn each_case(sorts: &[Sort], seed: u64, wanted: Wanted, sink: &mut dyn FnMut(Case) -> bool) {
-    let shares = shares(wanted);
+pub fn each_case(sorts: &[Sort], seed: u64, shares: &[u64], sink: &mut dyn FnMut(Case) -> bool) {
     let mut next_index = vec![0; sorts.len()];
     let mut done = vec![0; sorts.len()];
     for turn in 1..=TURNS {

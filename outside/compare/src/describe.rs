@@ -18,6 +18,14 @@ const FIELDS: [&str; POST_WORDS] = [
     "c",
 ];
 
+const IMPORTED: &[&str] = &[
+    "number",
+    "record",
+    "record, upper word",
+    "bytes",
+    "bytes, upper word",
+];
+
 impl Request {
     /// What the word at this place of the reply is.
     pub fn name_of(&self, reply: &[u32], at: usize) -> String {
@@ -39,6 +47,11 @@ impl Request {
                 })
             }
             Request::Why { .. } => named(&["number", "block", "position"], at, out_bytes),
+            Request::Export { .. } => {
+                let front = &["number", "block", "bytes", "bytes, upper word"];
+                named(front, at, out_bytes)
+            }
+            Request::Import { .. } => named(IMPORTED, at, out_bytes),
             Request::Run { kinds, steps, .. } => {
                 let (turn, rest) = split(at, 3 + kinds.len() * POST_WORDS);
                 let name = named(TOLD, rest, record_word);
@@ -103,9 +116,26 @@ impl Request {
             Request::Why { sheet, position } => {
                 format!("since when, of event {position} of {} bytes", sheet.len())
             }
+            Request::Export { sheet, out_len, .. } => {
+                format!("exporting {} bytes into {out_len} bytes", sheet.len())
+            }
+            Request::Import { text, out_len, .. } => {
+                let (bytes, start) = (text.len(), text_start(text));
+                format!("importing {bytes} bytes into {out_len} bytes:\n{start}")
+            }
             _ => String::new(),
         }
     }
+}
+
+/// A text that is not long, else its start; a line of it on each line.
+fn text_start(text: &[u8]) -> String {
+    let start = &text[..text.len().min(600)];
+    let line = |line: &[u8]| format!("    {}\n", line.escape_ascii());
+    start
+        .split_inclusive(|&byte| byte == b'\n')
+        .map(line)
+        .collect()
 }
 
 fn split(at: usize, size: usize) -> (usize, usize) {

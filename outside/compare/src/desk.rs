@@ -1,6 +1,6 @@
 //! A library that answers requests, and the desk's calls behind it.
 
-use model::{Entry, Found, Head, Post, Since, Told, Worked};
+use model::{Entry, Exported, Found, Head, Imported, Post, Since, Told, Worked};
 
 use crate::request::{padded, post_words, row_words, Reply, Request};
 
@@ -38,6 +38,14 @@ pub trait Desk {
 
     fn why(&mut self, sheet: &[u8], position: u32) -> Since {
         model::why(sheet, position)
+    }
+
+    fn export(&mut self, sheet: &[u8], out: &mut [u8]) -> Exported {
+        model::export(sheet, out)
+    }
+
+    fn import(&mut self, text: &[u8], out: &mut [u8]) -> Imported {
+        model::import(text, out)
     }
 }
 
@@ -120,8 +128,41 @@ fn sheet_reply(desk: &mut dyn Desk, request: &Request) -> Reply {
             [vec![number], padded(&out)].concat()
         }
         Request::Why { sheet, position } => since_words(desk.why(sheet, *position)),
+        _ => register_reply(desk, request),
+    }
+}
+
+/// The same for the calls on registers.
+fn register_reply(desk: &mut dyn Desk, request: &Request) -> Reply {
+    match request {
+        Request::Export {
+            sheet,
+            out_len,
+            fill,
+        } => {
+            let mut out = vec![*fill; *out_len];
+            let exported = desk.export(sheet, &mut out);
+            let front = [exported.number, exported.block];
+            [&front, &two_words(exported.bytes as u64)[..], &padded(&out)].concat()
+        }
+        Request::Import {
+            text,
+            out_len,
+            fill,
+        } => {
+            let mut out = vec![*fill; *out_len];
+            let imported = desk.import(text, &mut out);
+            let (record, bytes) = (imported.record, imported.bytes as u64);
+            let front = [two_words(record), two_words(bytes)].concat();
+            [&[imported.number], &front[..], &padded(&out)].concat()
+        }
         _ => Vec::new(),
     }
+}
+
+/// A number of 64 bits, its lower word first.
+fn two_words(number: u64) -> [u32; 2] {
+    [number as u32, (number >> 32) as u32]
 }
 
 fn found_words(found: Found, kinds: &[u32], events: &[Entry]) -> Reply {

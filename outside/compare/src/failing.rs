@@ -6,10 +6,11 @@ use std::os::unix::net::UnixStream;
 use std::process::Stdio;
 
 use model::program::{asked, wrote, Wrote, UNREAD};
-use model::{BLOCK_BYTES, MOST_BLOCKS, MOST_EVENTS};
+use model::{paper, BLOCK_BYTES, MOST_BLOCKS, MOST_EVENTS};
 
 use crate::child::TIME_LIMIT;
 use crate::fixed::short_sheet;
+use crate::fixed_texts::long_text;
 use crate::ran::{compared, run, run_on, with_words, Given, Ran};
 
 /// Runs the program on an input that gives these bytes and fails at the next read: a
@@ -25,12 +26,18 @@ fn run_on_failing(command: &[String], bytes: &[u8]) -> io::Result<Ran> {
 /// Each input that fails, for each word; and first the same bytes where the input ends there,
 /// which are answered, so that a program which takes a failure for the end is found.
 pub fn check_failing_inputs(command: &[String]) -> Result<usize, String> {
-    let inputs = failing_inputs();
-    let lines: [&[&str]; 3] = [&[], &["work"], &["why", "5"]];
-    for words in lines {
+    let (inputs, texts) = (failing_inputs(), failing_texts());
+    let lines: [(&[&str], &[Vec<u8>]); 5] = [
+        (&[], &inputs),
+        (&["work"], &inputs),
+        (&["why", "5"], &inputs),
+        (&["export"], &inputs),
+        (&["import"], &texts),
+    ];
+    for (words, inputs) in lines {
         let command = with_words(command, words.iter().copied());
         let asked = asked(words).ok_or("a wrong word")?;
-        for bytes in &inputs {
+        for bytes in inputs {
             let named = |how| {
                 move |text| {
                     format!(
@@ -45,7 +52,7 @@ pub fn check_failing_inputs(command: &[String]) -> Result<usize, String> {
             compared(failed, &Wrote::saying(UNREAD)).map_err(named("fails"))?;
         }
     }
-    Ok(lines.len() * inputs.len())
+    Ok(lines.iter().map(|(_, inputs)| inputs.len()).sum())
 }
 
 /// Inputs that fail: at once, within a block, after whole blocks, where a sheet that
@@ -62,4 +69,19 @@ pub fn failing_inputs() -> Vec<Vec<u8>> {
         inputs.push(vec![0; length]);
     }
     inputs
+}
+
+/// Texts that fail: at once, within a record, after a record, where a text that ended there
+/// would be right, after a whole text, and after a record that can't stand.
+pub fn failing_texts() -> Vec<Vec<u8>> {
+    let text = paper::REGISTER.as_bytes();
+    let mut texts: Vec<Vec<u8>> = [0, 1, 33, 34, 40, 57, 70, 71, text.len() - 2, text.len()]
+        .into_iter()
+        .map(|length| text[..length].to_vec())
+        .collect();
+    texts.push(b"position,event\r\n".to_vec());
+    texts.push([text, b"\r\n", text].concat());
+    texts.push(long_text(3_700));
+    texts.push([&long_text(3_700)[..], b"\""].concat());
+    texts
 }

@@ -7,11 +7,11 @@ use crate::histories::{near_stamp, stuck_pupils_event, Play};
 use crate::random::Random;
 use crate::sheets::{lively_sheet, put, renewed, Sheet};
 
-/// A sheet for the program, the words that it has beside, and what it must write.
+/// An input for the program, the words that it has beside, and what it must write.
 pub struct Fixed {
     pub name: &'static str,
     pub words: &'static [&'static str],
-    pub sheet: Vec<u8>,
+    pub input: Vec<u8>,
     pub wrote: Wrote,
 }
 
@@ -47,7 +47,7 @@ fn listed(name: &'static str, sheet: Vec<u8>, text: &str) -> Fixed {
     Fixed {
         name,
         words: &[],
-        sheet,
+        input: sheet,
         wrote: Wrote::printing(text),
     }
 }
@@ -57,13 +57,13 @@ fn refused(name: &'static str, sheet: Vec<u8>, number: u32, block: u32) -> Fixed
 }
 
 /// A case by the model; the words are right ones.
-pub fn computed(name: &'static str, words: &'static [&'static str], sheet: Vec<u8>) -> Fixed {
+pub fn computed(name: &'static str, words: &'static [&'static str], input: Vec<u8>) -> Fixed {
     let asked = asked(words).expect("right words");
     Fixed {
         name,
         words,
-        wrote: wrote(asked, &sheet),
-        sheet,
+        wrote: wrote(asked, &input),
+        input,
     }
 }
 

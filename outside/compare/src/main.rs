@@ -1,4 +1,4 @@
-//! compare [--seed S] [--events N] [--rows N] [--sheets N] [--questions N] [--only CASE] -- CMD ARGS..
+//! compare [--seed S] [--events N] [--rows N] [--sheets N] [--questions N] [--texts N] [--only CASE] -- CMD ARGS..
 //! compare --desk [--seed S] [--sheets N] [--only CASE] -- CMD ARGS..
 //! The words of the working program are put behind CMD ARGS.
 
@@ -11,7 +11,7 @@ use compare::program::{compare_program, only_program};
 use compare::run::{compare, named_case, only, Difference};
 
 const USAGE: &str = "compare [--desk] [--seed S] [--events N] [--rows N] [--sheets N] \
-    [--questions N] [--only CASE] -- CMD ARGS..";
+    [--questions N] [--texts N] [--only CASE] -- CMD ARGS..";
 
 const FIXED_SEED: u64 = 317_944;
 
@@ -22,6 +22,7 @@ struct Options {
     rows: u64,
     sheets: Option<u64>,
     questions: u64,
+    texts: u64,
     only: Option<String>,
     command: Vec<String>,
 }
@@ -35,6 +36,7 @@ impl Default for Options {
             rows: 500_000,
             sheets: None,
             questions: 20_000,
+            texts: 200_000,
             only: None,
             command: Vec::new(),
         }
@@ -65,6 +67,7 @@ fn options(mut arguments: impl Iterator<Item = String>) -> Result<Options, Strin
             "--rows" => options.rows = number()?,
             "--sheets" => options.sheets = Some(number()?),
             "--questions" => options.questions = number()?,
+            "--texts" => options.texts = number()?,
             "--only" => options.only = Some(value),
             _ => return Err(USAGE.to_string()),
         }
@@ -108,6 +111,7 @@ fn run_library(options: &Options) -> Result<(), String> {
         rows: options.rows,
         sheets: options.sheets.unwrap_or(200_000),
         questions: options.questions,
+        texts: options.texts,
     };
     let tally = compare(&sorts, seed, wanted, &mut library).map_err(told)?;
     library.finish()?;

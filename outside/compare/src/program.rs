@@ -1,4 +1,4 @@
-//! The working program, run once for each sheet, beside what the model writes.
+//! The working program, run once for each input, beside what the model writes.
 
 use model::program::{asked, wrote};
 use model::{BLOCK_BYTES, MOST_EVENTS};
@@ -6,21 +6,25 @@ use model::{BLOCK_BYTES, MOST_EVENTS};
 use crate::damage::KINDS;
 use crate::failing::check_failing_inputs;
 use crate::fixed::fixed_cases;
+use crate::fixed_texts::{check_byte_by_byte, check_long_texts, register_cases};
+use crate::misprints;
 use crate::questions::QUESTIONS;
 use crate::ran::{compared, run_on, with_words, Given};
 use crate::random::Random;
 use crate::request::Request;
 use crate::sheets::{get, lively_sheet};
-use crate::words::{check_pipe, check_wrong_words, why_cases, work_cases};
+use crate::spoiled::SPOILED;
+use crate::texts::{Text, RIGHT};
+use crate::words::{check_pipes, check_wrong_words, why_cases, work_cases};
 
 /// Inputs no longer than this are sometimes given byte by byte.
 const SMALL: usize = 4 * BLOCK_BYTES;
 
-/// A run of the program: what sort of sheet it has, its words and the sheet.
+/// A run of the program: what sort of input it has, its words and the input.
 struct Asked {
-    name: &'static str,
+    name: String,
     words: Vec<String>,
-    sheet: Vec<u8>,
+    input: Vec<u8>,
 }
 
 /// A sort of random runs: its name, its number, how many there are for so many sheets,
@@ -32,7 +36,7 @@ struct Sort {
     make: fn(&mut Random, u64) -> Asked,
 }
 
-const SORTS: [Sort; 3] = [
+const SORTS: [Sort; 5] = [
     Sort {
         name: "desk",
         number: 100,
@@ -43,7 +47,7 @@ const SORTS: [Sort; 3] = [
         name: "desk-work",
         number: 102,
         share: |sheets| sheets.div_ceil(2),
-        make: worked,
+        make: |random, index| of_any_length(random, index, &["work"]),
     },
     Sort {
         name: "desk-why",
@@ -51,29 +55,42 @@ const SORTS: [Sort; 3] = [
         share: |sheets| sheets.div_ceil(2),
         make: questioned,
     },
+    Sort {
+        name: "desk-export",
+        number: 104,
+        share: |sheets| sheets.div_ceil(2),
+        make: |random, index| of_any_length(random, index, &["export"]),
+    },
+    Sort {
+        name: "desk-import",
+        number: 105,
+        share: |sheets| sheets,
+        make: imported,
+    },
 ];
 
-fn of_any_kind(random: &mut Random, index: u64, words: &[&str]) -> Asked {
-    let (name, make) = KINDS[(index % KINDS.len() as u64) as usize];
+fn asked_of(name: impl ToString, words: &[&str], input: Vec<u8>) -> Asked {
     Asked {
-        name,
+        name: name.to_string(),
         words: words.iter().map(|word| word.to_string()).collect(),
-        sheet: make(random),
+        input,
     }
 }
 
+fn of_any_kind(random: &mut Random, index: u64, words: &[&str]) -> Asked {
+    let (name, make) = KINDS[(index % KINDS.len() as u64) as usize];
+    asked_of(name, words, make(random))
+}
+
 /// By turns a good sheet of any length and one of any kind.
-fn worked(random: &mut Random, index: u64) -> Asked {
+fn of_any_length(random: &mut Random, index: u64, words: &[&str]) -> Asked {
     if index % 2 == 1 {
-        return of_any_kind(random, index / 2, &["work"]);
+        return of_any_kind(random, index / 2, words);
     }
     let (posts, most) = (random.between(2, 32), random.pick(&[60, 300, MOST_EVENTS]));
     let count = random.between(0, most);
-    Asked {
-        name: "good, of any length",
-        words: vec!["work".to_string()],
-        sheet: lively_sheet(random, posts, count).bytes(),
-    }
+    let sheet = lively_sheet(random, posts, count).bytes();
+    asked_of("good, of any length", words, sheet)
 }
 
 fn questioned(random: &mut Random, index: u64) -> Asked {
@@ -81,28 +98,56 @@ fn questioned(random: &mut Random, index: u64) -> Asked {
     let Request::Why { sheet, position } = make(random) else {
         unreachable!("a question is a request of why");
     };
-    Asked {
-        name,
-        words: vec!["why".to_string(), position.to_string()],
-        sheet,
-    }
+    asked_of(name, &["why", &position.to_string()], sheet)
+}
+
+/// By turns a right text, one with a misprint, a spoiled one and the text of a lively sheet.
+fn imported(random: &mut Random, index: u64) -> Asked {
+    let of = |count: usize| (index / 4) as usize % count;
+    let (name, request) = match index % 4 {
+        0 => {
+            let (name, make) = RIGHT[of(RIGHT.len())];
+            (name.to_string(), make(random))
+        }
+        1 => {
+            let names = misprints::names();
+            // Not in order, so that a few have each place and damage of all sorts.
+            let variety = random.below(names.len());
+            (names[variety].clone(), misprints::misprint(random, variety))
+        }
+        2 => {
+            let (name, make) = SPOILED[of(SPOILED.len())];
+            (name.to_string(), make(random))
+        }
+        _ => {
+            let count = random.between(0, MOST_EVENTS);
+            let sheet = lively_sheet(random, 32, count).worked();
+            let mut text = Text::of(&sheet);
+            text.quote_somehow(random);
+            return asked_of("of a lively sheet", &["import"], text.bytes());
+        }
+    };
+    let Request::Import { text, .. } = request else {
+        unreachable!("a text is a request of import");
+    };
+    asked_of(name, &["import"], text)
 }
 
 /// One run compared; the text of a difference if there is one.
 fn check_random(command: &[String], seed: u64, sort: &Sort, index: u64) -> Result<(), String> {
     let mut random = Random::of_case(seed, sort.number, index);
-    let Asked { name, words, sheet } = (sort.make)(&mut random, index);
+    let Asked { name, words, input } = (sort.make)(&mut random, index);
     let given = match random.below(8) {
-        0 if sheet.len() <= SMALL => Given::InPieces(1),
+        0 if input.len() <= SMALL => Given::InPieces(1),
         1 => Given::InPieces(random.between(2, 700)),
         _ => Given::AtOnce,
     };
     let words: Vec<&str> = words.iter().map(String::as_str).collect();
-    let right = wrote(asked(&words).ok_or("a wrong word")?, &sheet);
-    let ran = run_on(&with_words(command, words.iter().copied()), &sheet, given);
+    let right = wrote(asked(&words).ok_or("a wrong word")?, &input);
+    let ran = run_on(&with_words(command, words.iter().copied()), &input, given);
     compared(ran, &right).map_err(|text| {
-        let (sort, bytes) = (sort.name, sheet.len());
-        let number = if bytes >= 8 { get(&sheet, 0, 1) } else { 0 };
+        let (sort, bytes) = (sort.name, input.len());
+        let number = if bytes >= 8 { get(&input, 0, 1) } else { 0 };
         format!("{sort}:{index} (seed {seed}), \"{name}\", words {words:?}, {bytes} bytes, N {number}: {text}")
     })
 }
@@ -113,12 +158,13 @@ fn check_fixed(command: &[String]) -> Result<usize, String> {
         .into_iter()
         .chain(work_cases())
         .chain(why_cases())
+        .chain(register_cases())
     {
-        let small = case.sheet.len() <= SMALL;
+        let small = case.input.len() <= SMALL;
         let ways = [Given::AtOnce, Given::InPieces(1)];
         let command = with_words(command, case.words.iter().copied());
         for given in &ways[..if small { 2 } else { 1 }] {
-            compared(run_on(&command, &case.sheet, *given), &case.wrote)
+            compared(run_on(&command, &case.input, *given), &case.wrote)
                 .map_err(|text| format!("\"{}\", words {:?}: {text}", case.name, case.words))?;
             ran += 1;
         }
@@ -126,29 +172,32 @@ fn check_fixed(command: &[String]) -> Result<usize, String> {
     Ok(ran)
 }
 
-/// The fixed cases, the inputs that fail and then so many random sheets, and half as many for each
-/// word. What ran, or the first difference.
+/// The fixed cases, the long texts, the inputs that fail and then so many random sheets, half as
+/// many for each word, and as many texts. What ran, or the first difference.
 pub fn compare_program(command: &[String], seed: u64, sheets: u64) -> Result<String, String> {
     let fixed = check_fixed(command)?;
     let wrong = check_wrong_words(command)?;
-    let pipes = check_pipe(command)?;
+    let pipes = check_pipes(command)?;
+    let long = check_long_texts(command)?;
     let failing = check_failing_inputs(command)?;
+    let slow = check_byte_by_byte(command)?;
     for sort in &SORTS {
         for index in 0..(sort.share)(sheets) {
             check_random(command, seed, sort, index)?;
         }
     }
-    let [listed, worked, asked] = SORTS.map(|sort| (sort.share)(sheets));
+    let [listed, worked, asked, exported, imported] = SORTS.map(|sort| (sort.share)(sheets));
     Ok(format!(
-        "{fixed} fixed runs, {wrong} of wrong words, {pipes} pipes, {failing} inputs that fail; \
-        random sheets: {listed} listed, {worked} worked, {asked} asked about"
+        "{fixed} fixed runs, {wrong} of wrong words, {pipes} pipes, {long} long texts, \
+        {failing} inputs that fail, {slow} texts byte by byte; random sheets: {listed} listed, {worked} worked, {asked} asked about, \
+        {exported} exported; {imported} random texts imported"
     ))
 }
 
-/// Replays one random sheet, named by its sort, a colon and its index.
+/// Replays one random input, named by its sort, a colon and its index.
 pub fn only_program(command: &[String], seed: u64, name: &str) -> Result<String, String> {
-    let wanted =
-        "no such case: \"desk\", \"desk-work\" or \"desk-why\", a colon and a number are wanted";
+    let wanted = "no such case: \"desk\", \"desk-work\", \"desk-why\", \"desk-export\" or \
+        \"desk-import\", a colon and a number are wanted";
     let (sort, index) = name.split_once(':').ok_or(wanted)?;
     let sort = SORTS
         .iter()

@@ -53,6 +53,16 @@ pub enum Request {
         sheet: Vec<u8>,
         position: u32,
     },
+    Export {
+        sheet: Vec<u8>,
+        out_len: usize,
+        fill: u8,
+    },
+    Import {
+        text: Vec<u8>,
+        out_len: usize,
+        fill: u8,
+    },
 }
 
 impl Request {
@@ -108,19 +118,35 @@ impl Request {
                 let out = [size(*out_len), u32::from(*fill)];
                 joined(&front, &[&out, kinds, &events.concat()])
             }
+            Request::Why { sheet, position } => {
+                joined(&[8, size(sheet.len()), *position], &[&padded(sheet)])
+            }
+            _ => self.made_words(),
+        }
+    }
+
+    /// The same for the calls that make bytes of bytes.
+    fn made_words(&self) -> Vec<u32> {
+        let (call, bytes, out_len, fill) = match self {
             Request::Work {
                 sheet,
                 out_len,
                 fill,
-            } => {
-                let front = [6, size(sheet.len()), size(*out_len), u32::from(*fill)];
-                joined(&front, &[&padded(sheet)])
-            }
-            Request::Why { sheet, position } => {
-                joined(&[8, size(sheet.len()), *position], &[&padded(sheet)])
-            }
-            _ => Vec::new(),
-        }
+            } => (6, sheet, *out_len, *fill),
+            Request::Export {
+                sheet,
+                out_len,
+                fill,
+            } => (9, sheet, *out_len, *fill),
+            Request::Import {
+                text,
+                out_len,
+                fill,
+            } => (10, text, *out_len, *fill),
+            _ => return Vec::new(),
+        };
+        let front = [call, bytes.len() as u32, out_len as u32, u32::from(fill)];
+        joined(&front, &[&padded(bytes)])
     }
 
     /// How many words of a reply tell how long it is in all.
@@ -147,6 +173,8 @@ impl Request {
             }
             Request::Run { kinds, steps, .. } => (1 + steps.len()) * (3 + kinds.len() * POST_WORDS),
             Request::Why { .. } => 3,
+            Request::Export { out_len, .. } => 4 + out_len.div_ceil(4),
+            Request::Import { out_len, .. } => 5 + out_len.div_ceil(4),
         }
     }
 }

@@ -1,4 +1,4 @@
-//! Reading and working of all kinds of sheets, into rooms around what is needed.
+//! Reading, working and export of all kinds of sheets, into rooms around what is needed.
 
 use model::EVENTS_PER_BLOCK;
 
@@ -6,6 +6,7 @@ use crate::damage::KINDS;
 use crate::random::Random;
 use crate::request::Request;
 use crate::sheets::{blocks, get, some};
+use crate::texts::exported;
 
 /// Rooms for a reading: its name, and by how much each differs from what is needed.
 /// A room can't be below nothing, so a far lower one has no place at all.
@@ -22,7 +23,7 @@ pub const ROOMS: &[Rooms] = &[
     ("no events room", 1, -9999),
 ];
 
-/// Outputs for a working: its name, and by how much it differs from the sheet.
+/// Outputs: a name, and by how much it differs from what is needed.
 pub const OUTPUTS: &[(&str, i64)] = &[
     ("output exact", 0),
     ("output one short", -1),
@@ -32,13 +33,18 @@ pub const OUTPUTS: &[(&str, i64)] = &[
     ("no output", -99_999),
 ];
 
-fn about(needed: usize, by: i64) -> usize {
+pub fn about(needed: usize, by: i64) -> usize {
     (needed as i64 + by).max(0) as usize
 }
 
-pub fn reading_names() -> Vec<&'static str> {
+/// The kinds of sheets, and then these.
+fn kinds_and(others: impl Iterator<Item = &'static str>) -> Vec<String> {
     let kinds = KINDS.iter().map(|kind| kind.0);
-    kinds.chain(ROOMS.iter().map(|rooms| rooms.0)).collect()
+    kinds.chain(others).map(str::to_string).collect()
+}
+
+pub fn reading_names() -> Vec<String> {
+    kinds_and(ROOMS.iter().map(|rooms| rooms.0))
 }
 
 pub fn reading(random: &mut Random, variety: usize) -> Request {
@@ -73,13 +79,14 @@ pub fn reading(random: &mut Random, variety: usize) -> Request {
     }
 }
 
-pub fn working_names() -> Vec<&'static str> {
-    let kinds = KINDS.iter().map(|kind| kind.0);
-    kinds.chain(OUTPUTS.iter().map(|out| out.0)).collect()
+/// The varieties of working and of export.
+pub fn output_names() -> Vec<String> {
+    kinds_and(OUTPUTS.iter().map(|out| out.0))
 }
 
-pub fn working(random: &mut Random, variety: usize) -> Request {
-    let (sheet, by) = match variety.checked_sub(KINDS.len()) {
+/// A sheet of the variety, and by how much the output differs from what is needed.
+fn sheet_and_output(random: &mut Random, variety: usize) -> (Vec<u8>, i64) {
+    match variety.checked_sub(KINDS.len()) {
         Some(at) => (some(random, 0).bytes(), OUTPUTS[at].1),
         None => {
             let by = if random.chance(80) {
@@ -89,9 +96,24 @@ pub fn working(random: &mut Random, variety: usize) -> Request {
             };
             (KINDS[variety].1(random), by)
         }
-    };
+    }
+}
+
+pub fn working(random: &mut Random, variety: usize) -> Request {
+    let (sheet, by) = sheet_and_output(random, variety);
     Request::Work {
         out_len: about(sheet.len(), by),
+        sheet,
+        fill: random.word() as u8,
+    }
+}
+
+/// A sheet that is refused has a room about its own length.
+pub fn exporting(random: &mut Random, variety: usize) -> Request {
+    let (sheet, by) = sheet_and_output(random, variety);
+    let needed = exported(&sheet).map_or(sheet.len(), |text| text.len());
+    Request::Export {
+        out_len: about(needed, by),
         sheet,
         fill: random.word() as u8,
     }

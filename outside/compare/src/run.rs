@@ -3,7 +3,7 @@
 use std::sync::mpsc::{sync_channel, SyncSender};
 use std::thread;
 
-use crate::cases::{case, each_case, Case, Sort, Wanted};
+use crate::cases::{case, each_case, shares, Case, Sort, Wanted};
 use crate::desk::Library;
 use crate::request::{Reply, Request};
 use crate::tally::Tally;
@@ -38,7 +38,9 @@ impl Batch {
         let of_request = match &case.request {
             Request::Read { sheet, .. }
             | Request::Work { sheet, .. }
+            | Request::Export { sheet, .. }
             | Request::Why { sheet, .. } => sheet.len() / 4,
+            Request::Import { text, .. } => text.len() / 4,
             Request::Write { events, .. } => 4 * events.len(),
             _ => 0,
         };
@@ -60,9 +62,25 @@ pub fn compare(
     wanted: Wanted,
     library: &mut dyn Library,
 ) -> Result<Tally, Difference> {
+    let names: Vec<&str> = sorts.iter().map(|sort| sort.name).collect();
+    compare_sorts(sorts, seed, wanted, &names, library)
+}
+
+/// The same on the cases of these sorts alone.
+pub fn compare_sorts(
+    sorts: &[Sort],
+    seed: u64,
+    wanted: Wanted,
+    names: &[&str],
+    library: &mut dyn Library,
+) -> Result<Tally, Difference> {
+    let mut shares = shares(wanted);
+    for (share, sort) in shares.iter_mut().zip(sorts) {
+        *share *= u64::from(names.contains(&sort.name));
+    }
     thread::scope(|scope| {
         let (sender, batches) = sync_channel(2);
-        let maker = scope.spawn(move || make_batches(sorts, seed, wanted, &sender));
+        let maker = scope.spawn(move || make_batches(sorts, seed, &shares, &sender));
         for batch in batches {
             // Returning drops the receiver, and the maker's next batch ends it.
             check(sorts, &batch, library)?;
@@ -71,10 +89,10 @@ pub fn compare(
     })
 }
 
-fn make_batches(sorts: &[Sort], seed: u64, wanted: Wanted, sender: &SyncSender<Batch>) -> Tally {
+fn make_batches(sorts: &[Sort], seed: u64, shares: &[u64], sender: &SyncSender<Batch>) -> Tally {
     let mut tally = Tally::new(sorts);
     let mut batch = Batch::default();
-    each_case(sorts, seed, wanted, &mut |case| {
+    each_case(sorts, seed, shares, &mut |case| {
         tally.add(sorts, &case);
         batch.push(case);
         if batch.words < BATCH_WORDS {
@@ -94,7 +112,7 @@ fn check(sorts: &[Sort], batch: &Batch, library: &mut dyn Library) -> Result<(),
         if given.as_ref() != Some(&expected.reply) {
             let sort = &sorts[expected.sort];
             let name = format!("{}:{}", sort.name, expected.index);
-            let variety = sort.varieties[expected.variety];
+            let variety = &sort.varieties[expected.variety];
             let text = difference(request, variety, given.as_deref(), &expected.reply);
             return Err(Difference { name, text });
         }

@@ -5,12 +5,13 @@ use std::fmt::Write;
 use crate::cases::{Case, Sort, ALTERED_ROWS};
 use crate::counts::Counts;
 use crate::moments::{Altered, Moment, ALTERED, MOMENTS};
+use crate::registers::{Export, Import, EXPORTS, IMPORTS, LONG, LONG_FROM};
 use crate::request::{Request, POST_WORDS};
 use crate::seen::{Question, RARELY, SEEN};
 
-/// The numbers that a call can return: 0 to 23, and 29.
-const ANSWERS: [usize; 25] = [
-    0, 1, 2, 3, 4, 5, 6, 7, 8, 9, 10, 11, 12, 13, 14, 15, 16, 17, 18, 19, 20, 21, 22, 23, 29,
+/// The numbers that a call can return: 0 to 23, 28 and 29.
+const ANSWERS: [usize; 26] = [
+    0, 1, 2, 3, 4, 5, 6, 7, 8, 9, 10, 11, 12, 13, 14, 15, 16, 17, 18, 19, 20, 21, 22, 23, 28, 29,
 ];
 
 /// The events which can be taken at each kind (for 8, 9 and 10: the kind of the
@@ -39,6 +40,9 @@ pub struct Tally {
     pub moments: Counts<Moment>,
     pub altered: Counts<Altered>,
     pub questions: Counts<Question>,
+    pub imports: Counts<Import>,
+    pub long: Counts<Import>,
+    pub exports: Counts<Export>,
 }
 
 impl Tally {
@@ -52,6 +56,9 @@ impl Tally {
             moments: Counts::new("events in histories", MOMENTS),
             altered: Counts::new("altered rows", ALTERED),
             questions: Counts::new("questions of since when", SEEN),
+            imports: Counts::new("texts", IMPORTS),
+            long: Counts::new("long texts", LONG),
+            exports: Counts::new("exports", EXPORTS),
         }
     }
 
@@ -66,12 +73,31 @@ impl Tally {
             Request::Valid { .. } => {}
             _ => self.answers[first as usize] += 1,
         }
-        if let Request::Why { sheet, position } = &case.request {
-            let question = Question::new(sheet, *position, &case.expected);
-            self.questions.add(&question);
-        }
+        self.add_seen(case);
         if sorts[case.sort].name == ALTERED_ROWS {
             self.add_altered(&case.request, first);
+        }
+    }
+
+    /// What is counted of a question, an import and an export.
+    fn add_seen(&mut self, case: &Case) {
+        let expected = &case.expected;
+        match &case.request {
+            Request::Why { sheet, position } => {
+                let question = Question::new(sheet, *position, expected);
+                self.questions.add(&question);
+            }
+            Request::Import { text, out_len, .. } => {
+                let import = Import::new(text, *out_len, expected);
+                match import.events() < LONG_FROM {
+                    true => self.imports.add(&import),
+                    false => self.long.add(&import),
+                }
+            }
+            Request::Export { sheet, out_len, .. } => {
+                self.exports.add(&Export::new(sheet, *out_len, expected));
+            }
+            _ => {}
         }
     }
 
@@ -130,6 +156,9 @@ impl Tally {
         lines.extend(self.moments.rare(u64::MAX));
         lines.extend(self.altered.rare(u64::MAX));
         lines.extend(self.questions.rare(RARELY));
+        lines.extend(self.imports.rare(RARELY));
+        lines.extend(self.long.rare(RARELY));
+        lines.extend(self.exports.rare(RARELY));
         lines
     }
 
@@ -165,6 +194,9 @@ impl Tally {
             self.moments.text(),
             self.altered.text(),
             self.questions.text(),
+            self.imports.text(),
+            self.long.text(),
+            self.exports.text(),
         ] {
             text.push_str(&counts);
         }

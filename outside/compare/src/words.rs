@@ -1,4 +1,4 @@
-//! The program's words: fixed cases of `work` and `why`, wrong words, and a pipe.
+//! The program's words: fixed cases of `work` and `why`, wrong words, and pipes.
 
 use std::fs::{self, File, OpenOptions};
 use std::io::{self, Seek, Write};
@@ -6,7 +6,7 @@ use std::process::{self, Stdio};
 use std::sync::atomic::{AtomicU32, Ordering::Relaxed};
 
 use model::program::{Wrote, USAGE};
-use model::{stuck, MOST_EVENTS, UNANSWERED};
+use model::{paper, stuck, MOST_EVENTS, UNANSWERED};
 
 use crate::fixed::{computed, from_0, papers_sheet, short_sheet, stuck_sheet, Fixed, BUILT};
 use crate::ran::{compared, run, run_on, with_words, Given};
@@ -15,10 +15,10 @@ use crate::sheets::{lively_sheet, put, renewed, Sheet};
 
 /// The refusals of `work` are said on standard error. What is refused is typed in.
 pub fn work_cases() -> Vec<Fixed> {
-    let case = |name, sheet, wrote| Fixed {
+    let case = |name, input, wrote| Fixed {
         name,
         words: &["work"],
-        sheet,
+        input,
         wrote,
     };
     let refused = |name, sheet, text| case(name, sheet, Wrote::saying(text));
@@ -82,7 +82,7 @@ fn why_case(
     Fixed {
         name,
         words,
-        sheet,
+        input: sheet,
         wrote: Wrote::printing(text),
     }
 }
@@ -162,6 +162,20 @@ const WRONG: &[&[&str]] = &[
     &["why", "5", "5"],
     &["why", "5", ""],
     &["why", "why"],
+    &["export", "x"],
+    &["export", ""],
+    &["export", "5"],
+    &["export", "import"],
+    &["Export"],
+    &["exports"],
+    &["expor"],
+    &["import", "x"],
+    &["import", ""],
+    &["import", "-"],
+    &["import", "export"],
+    &["IMPORT"],
+    &["imports"],
+    &["impor"],
 ];
 
 /// Behind `why`. Some are 5 when they are carried round at 2^32 or at 2^64.
@@ -193,7 +207,8 @@ const NO_POSITION: &[&str] = &[
 ];
 
 /// Each wrong line of words: the program says how it is used, and reads nothing. First
-/// a right one, so that what is read is noticed.
+/// right ones, so that what is read is noticed: all of it, also of a text that is wrong
+/// from its first record on.
 pub fn check_wrong_words(command: &[String]) -> Result<usize, String> {
     let sheet = papers_sheet().worked().bytes();
     let behind_why: Vec<[&str; 2]> = NO_POSITION.iter().map(|word| ["why", word]).collect();
@@ -202,12 +217,19 @@ pub fn check_wrong_words(command: &[String]) -> Result<usize, String> {
         .copied()
         .chain(behind_why.iter().map(|line| &line[..]))
         .collect();
-    let right = Wrote::printing("2 4 0 0\n");
-    check_read(command, &["why", "5"], &sheet, &right, sheet.len() as u64)?;
+    let refused = Wrote::saying("refused 28 1\n");
+    let right: [(&[&str], Wrote); 3] = [
+        (&["why", "5"], Wrote::printing("2 4 0 0\n")),
+        (&["export"], Wrote::printing(paper::REGISTER)),
+        (&["import"], refused),
+    ];
+    for (words, wrote) in &right {
+        check_read(command, words, &sheet, wrote, sheet.len() as u64)?;
+    }
     for words in &wrong {
         check_read(command, words, &sheet, &Wrote::saying(USAGE), 0)?;
     }
-    Ok(1 + wrong.len())
+    Ok(right.len() + wrong.len())
 }
 
 /// One run on a file, and how far into it the program has read.
@@ -252,23 +274,38 @@ fn nameless_file(bytes: &[u8]) -> io::Result<File> {
     Ok(file)
 }
 
-/// `desk work <SHEET | desk why 5`, by a shell; and a refused sheet, after which the
-/// second has an empty input.
-pub fn check_pipe(command: &[String]) -> Result<usize, String> {
-    let line = ["sh", "-c", "\"$@\" work | \"$@\" why 5", "sh"].map(str::to_string);
-    let piped = with_words(&line, command.iter().map(String::as_str));
-    let paper = papers_sheet();
-    let refused = Wrote {
-        printed: b"refused 18 0\n".to_vec(),
-        said: "refused 20 1\n".to_string(),
+/// The program twice in a pipe, by a shell: the words of each, the input, and what comes
+/// out. After a refusal the second has an empty input.
+fn pipes() -> [([&'static str; 2], Vec<u8>, Wrote); 6] {
+    let (paper, worked) = (papers_sheet().bytes(), papers_sheet().worked().bytes());
+    let register = paper::REGISTER.as_bytes().to_vec();
+    let told = |printed: &[u8], said: &str| Wrote {
+        printed: printed.to_vec(),
+        said: said.to_string(),
     };
-    let runs = [
-        (paper.bytes(), Wrote::printing("2 4 0 0\n")),
-        (paper.worked().bytes(), refused),
-    ];
-    for (sheet, right) in &runs {
-        compared(run_on(&piped, sheet, Given::AtOnce), right)
-            .map_err(|text| format!("work | why 5: {text}"))?;
+    let both_refused = told(b"refused 18 0\n", "refused 20 1\n");
+    [
+        (["work", "why 5"], paper.clone(), told(b"2 4 0 0\n", "")),
+        (["work", "why 5"], worked.clone(), both_refused),
+        (["export", "import"], worked.clone(), told(&worked, "")),
+        (["import", "export"], register.clone(), told(&register, "")),
+        (["work", "export"], paper, told(&register, "")),
+        (
+            ["export", "import"],
+            worked[1..].to_vec(),
+            told(b"", "refused 18 0\nrefused 28 1\n"),
+        ),
+    ]
+}
+
+pub fn check_pipes(command: &[String]) -> Result<usize, String> {
+    let pipes = pipes();
+    for ([first, second], input, right) in &pipes {
+        let line = format!("\"$@\" {first} | \"$@\" {second}");
+        let shell = ["sh", "-c", &line, "sh"].map(str::to_string);
+        let piped = with_words(&shell, command.iter().map(String::as_str));
+        compared(run_on(&piped, input, Given::AtOnce), right)
+            .map_err(|text| format!("{first} | {second}: {text}"))?;
     }
-    Ok(runs.len())
+    Ok(pipes.len())
 }

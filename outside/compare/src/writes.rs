@@ -56,6 +56,11 @@ fn any_entry(random: &mut Random) -> Entry {
 
 pub fn any_sheet(random: &mut Random, count: usize) -> Sheet {
     let posts = some_posts(random);
+    any_sheet_of(random, posts, count)
+}
+
+/// The same of so many posts, of which there may be too many.
+pub fn any_sheet_of(random: &mut Random, posts: usize, count: usize) -> Sheet {
     Sheet {
         kinds: table(random, posts),
         stamp: random.edge_word(),

@@ -5,7 +5,7 @@ use std::time::Duration;
 use compare::cases::{sorts, Wanted};
 use compare::child::ChildLibrary;
 use compare::desk::Library;
-use compare::failing::failing_inputs;
+use compare::failing::{failing_inputs, failing_texts};
 use compare::fixed::sheet_of_everything;
 use compare::program::compare_program;
 use compare::run::{compare, named_case, only};
@@ -17,6 +17,7 @@ const FEW: Wanted = Wanted {
     rows: 2_000,
     sheets: 1_000,
     questions: 300,
+    texts: 2_000,
 };
 
 fn command(words: &[&str]) -> Vec<String> {
@@ -174,9 +175,97 @@ fn a_program_with_wrong_jams_is_found() {
 }
 
 #[test]
+fn a_program_with_wrong_exports_is_found() {
+    must_be_found(&[
+        (but_for("export", "DESK | tr -d '\\r'"), "export: the paper"),
+        (but_for("export", "DESK 2>&1"), "export: empty input"),
+        (
+            but_for("export", "DESK | head -c 65536"),
+            "export: 3,780 events",
+        ),
+        (
+            but_for("export", "head -c 32768 | DESK"),
+            "export: 33,280 bytes",
+        ),
+    ]);
+}
+
+#[test]
+fn a_program_with_wrong_imports_is_found() {
+    must_be_found(&[
+        (but_for("import", "DESK 2>/dev/null"), "import: nothing"),
+        (
+            but_for("import", "tr -d '\"' | DESK"),
+            "import: a quote never",
+        ),
+        (
+            but_for("import", "sed 's/\\r*$/\\r/' | DESK"),
+            "import: no last line",
+        ),
+        (
+            but_for(
+                "import",
+                "sed -z 's/[^\\r]\\n/\\r&/g;s/\\r\\(.\\)\\n/\\1\\r\\n/g' | DESK",
+            ),
+            "import: LF for CR LF",
+        ),
+        // An input of some length, and no more.
+        (
+            but_for("import", "head -c 131072 | DESK"),
+            "\"right\", 1318951 bytes in pieces of 65536",
+        ),
+        (
+            but_for("import", "dd bs=131072 count=1 2>/dev/null | DESK"),
+            "import: 3,780 events",
+        ),
+        // Records counted in 16 bits, or from 0.
+        (
+            but_for("import", "{ DESK 2>&1 >&3 | sed s/70005/4469/ >&2; } 3>&1"),
+            "\"a wrong answer\"",
+        ),
+        (
+            but_for(
+                "import",
+                "{ DESK 2>&1 >&3 | sed 's/28 1$/28 0/' >&2; } 3>&1",
+            ),
+            "import: nothing",
+        ),
+    ]);
+}
+
+#[test]
+fn a_program_with_wrong_words_of_registers_is_found() {
+    let taken_for = |words, others| but_for(words, &format!("set -- {others}; DESK"));
+    must_be_found(&[
+        (taken_for("'export x'", "export"), "[\"export\", \"x\"]"),
+        (taken_for("'import '", "import"), "[\"import\", \"\"]"),
+        // What is wrong from its start on is not read on.
+        (
+            but_for(
+                "import",
+                "h=$(dd bs=1 count=8 2>&-); case $h in posit*|'\"'posit*) ;; \
+                *) echo refused 28 1 >&2; exit;; esac; { printf %s \"$h\"; cat; } | DESK",
+            ),
+            "[\"import\"]: 8 bytes were read",
+        ),
+        // A failed read is the end of the input, for these words.
+        (
+            but_for("export", "cat 2>/dev/null | DESK"),
+            "[\"export\"], an input that fails",
+        ),
+        (
+            but_for("import", "cat 2>/dev/null | DESK"),
+            "[\"import\"], an input that fails",
+        ),
+    ]);
+}
+
+#[test]
 fn some_inputs_that_fail_would_be_good_sheets() {
     let listed = |bytes: &Vec<u8>| !model::listing(bytes).starts_with("refused");
     assert_eq!(failing_inputs().into_iter().filter(listed).count(), 5);
+    let imported = |text: &Vec<u8>| model::import(text, &mut [0; 32_768]).number == 0;
+    assert_eq!(failing_texts().into_iter().filter(imported).count(), 5);
 }
 
 #[test]

@@ -7,6 +7,7 @@ use common::{must_differ, refused, right, small_run, Events};
 use compare::cases::{sorts, Wanted};
 use compare::desk::{Desk, InProcess, Model};
 use compare::moments::{ALTERED, MOMENTS};
+use compare::registers::{EXPORTS, IMPORTS, LONG};
 use compare::run::compare;
 use compare::seen::SEEN;
 use compare::sheets::{blocks, get, put, renew};
@@ -25,6 +26,7 @@ fn what_does_not_come_up_is_missed() {
         rows: 0,
         sheets: 0,
         questions: 0,
+        texts: 0,
     };
     let run = compare(&sorts(), 1, wanted, &mut InProcess(Model));
     let missing = run.map_or(Vec::new(), |tally| tally.missing(&sorts()));
@@ -35,9 +37,12 @@ fn what_does_not_come_up_is_missed() {
             .count()
     };
     assert_eq!(lines("questions of since when, "), SEEN.len());
+    assert_eq!(lines("texts, "), IMPORTS.len());
+    assert_eq!(lines("long texts, "), LONG.len());
+    assert_eq!(lines("exports, "), EXPORTS.len());
     assert_eq!(lines("events in histories, "), MOMENTS.len());
     assert_eq!(lines("altered rows, "), ALTERED.len());
-    assert_eq!(lines("answer "), 25);
+    assert_eq!(lines("answer "), 26);
     assert_eq!(lines("event "), 47);
 }
 
@@ -50,6 +55,7 @@ fn the_model_passes_a_whole_run() {
         rows: 500_000,
         sheets: 200_000,
         questions: 20_000,
+        texts: 200_000,
     };
     let began = std::time::Instant::now();
     let run = compare(&sorts(), 317_944, wanted, &mut InProcess(Model));

@@ -100,6 +100,28 @@ pub struct Since {
     pub position: u32,
 }
 
+/// What an export returns.
+#[repr(C)]
+#[derive(Clone, Copy, Debug, Default, PartialEq, Eq)]
+pub struct Exported {
+    pub number: u32,
+    pub block: u32,
+    pub bytes: usize,
+}
+
+/// What an import returns.
+#[repr(C)]
+#[derive(Clone, Copy, Debug, Default, PartialEq, Eq)]
+pub struct Imported {
+    pub number: u32,
+    pub record: u64,
+    pub bytes: usize,
+}
+
+/// A room that the register of any sheet fits into, and one that any sheet fits into.
+pub const TEXT: usize = 97_501;
+pub const SHEET: usize = 32_768;
+
 /// An event of a sheet: number, post (8, 9, 10: section), answer, stamp.
 pub type Entry = [u32; 4];
 
@@ -145,6 +167,8 @@ mod c {
         ) -> u32;
         pub fn desk_work(sheet: *const u8, n: usize, out: *mut u8, room: usize) -> Worked;
         pub fn desk_why(sheet: *const u8, n: usize, position: u32) -> Since;
+        pub fn desk_export(sheet: *const u8, n: usize, out: *mut u8, room: usize) -> Exported;
+        pub fn desk_import(text: *const u8, n: usize, out: *mut u8, room: usize) -> Imported;
     }
 }
 
@@ -224,4 +248,16 @@ pub fn work(sheet: &[u8], out: &mut [u8]) -> Worked {
 pub fn why(sheet: &[u8], position: u32) -> Since {
     // SAFETY: see above.
     unsafe { c::desk_why(sheet.as_ptr(), sheet.len(), position) }
+}
+
+/// Exports a sheet as its register, comma-separated text, to the front of `out`.
+pub fn export(sheet: &[u8], out: &mut [u8]) -> Exported {
+    // SAFETY: see above.
+    unsafe { c::desk_export(sheet.as_ptr(), sheet.len(), out.as_mut_ptr(), out.len()) }
+}
+
+/// Imports a register as its sheet to the front of `out`.
+pub fn import(text: &[u8], out: &mut [u8]) -> Imported {
+    // SAFETY: see above.
+    unsafe { c::desk_import(text.as_ptr(), text.len(), out.as_mut_ptr(), out.len()) }
 }

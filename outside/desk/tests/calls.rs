@@ -1,7 +1,10 @@
 //! Each call once through the wrapper: that pointers, counts and returned structs meet the C calling convention.
 use desk::relay::{AN, JAM, RL, W241, W314};
-use desk::{event, read, start, test, valid, why, work, write, Head, Post, Since, Verdict};
-use model::paper::{answered, unanswered, KINDS};
+use desk::{
+    event, export, import, read, start, test, valid, why, work, write, Exported, Head, Imported,
+    Post, Since, Verdict, SHEET, TEXT,
+};
+use model::paper::{answered, unanswered, KINDS, REGISTER};
 use model::stuck;
 
 fn is_last(row: &[Post]) -> bool {
@@ -89,6 +92,9 @@ fn empty_slices() {
     assert_eq!(write(&KINDS, 0, &[], &mut []), 21);
     assert_eq!(read(&[], &mut [], &mut []).number, 18);
     assert_eq!(why(&[], 1), since(18, 0, 0));
+    assert_eq!(export(&[], &mut []), exported(18, 0, 0));
+    assert_eq!(import(&[], &mut []), imported(28, 1, 0));
+    assert_eq!(import(REGISTER.as_bytes(), &mut []), imported(21, 0, 0));
 }
 
 fn since(number: u32, block: u32, position: u32) -> Since {
@@ -122,4 +128,70 @@ fn a_bad_block_is_named() {
             block: 1
         }
     );
+}
+
+fn exported(number: u32, block: u32, bytes: usize) -> Exported {
+    Exported {
+        number,
+        block,
+        bytes,
+    }
+}
+
+fn imported(number: u32, record: u64, bytes: usize) -> Imported {
+    Imported {
+        number,
+        record,
+        bytes,
+    }
+}
+
+#[test]
+fn a_register_there_and_back() {
+    let (mut sheet, mut out) = ([0; 1024], [7; 1025]);
+    assert_eq!(write(&KINDS, 0, &answered(), &mut sheet), 0);
+    let mut text = vec![7; TEXT];
+    let bytes = REGISTER.len();
+    assert_eq!(export(&sheet, &mut text), exported(0, 0, bytes));
+    assert_eq!(text[..bytes], *REGISTER.as_bytes());
+    assert!(text[bytes..].iter().all(|&byte| byte == 7));
+    let quoted = REGISTER.replace("position", "\"position\"");
+    for text in [REGISTER, REGISTER.trim_end(), &quoted] {
+        out.fill(7);
+        assert_eq!(import(text.as_bytes(), &mut out), imported(0, 0, 1024));
+        assert_eq!((&out[..1024], out[1024]), (&sheet[..], 7));
+    }
+}
+
+#[test]
+fn a_register_refused() {
+    let mut sheet = [0; 1024];
+    assert_eq!(write(&KINDS, 0, &answered(), &mut sheet), 0);
+    let mut out = vec![7; REGISTER.len() - 1];
+    assert_eq!(export(&sheet, &mut out), exported(21, 0, 0));
+    sheet[600] ^= 1;
+    assert_eq!(export(&sheet, &mut out), exported(19, 1, 0));
+    let wrong = REGISTER.replace("9000,12", "09000,12");
+    assert_eq!(import(wrong.as_bytes(), &mut out), imported(28, 13, 0));
+    assert_eq!(
+        import(&REGISTER.as_bytes()[..40], &mut out),
+        imported(28, 2, 0)
+    );
+    let mut short = [7; 1023];
+    assert_eq!(import(REGISTER.as_bytes(), &mut short), imported(21, 0, 0));
+    assert!(out.iter().chain(&short).all(|&byte| byte == 7));
+}
+
+/// A record beyond 2^16, and more events than a sheet holds.
+#[test]
+fn a_long_register() {
+    let mut text = REGISTER.to_string();
+    for position in 16..=70_000 {
+        text += &format!("{position},1,0,0,31\r\n");
+    }
+    let mut out = vec![7; SHEET];
+    assert_eq!(import(text.as_bytes(), &mut out), imported(18, 0, 0));
+    text += "70001,1,0,0,32";
+    assert_eq!(import(text.as_bytes(), &mut out), imported(28, 70_005, 0));
+    assert!(out.iter().all(|&byte| byte == 7));
 }

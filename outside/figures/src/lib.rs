@@ -1,5 +1,8 @@
 //! Plain Rust beside the ledger, for figures: the model's event with all its tests, the same event on a line that is
-//! not tested, the sum of a block, the listing, and since when. The C program `figures` calls these and the ledger in one run.
+//! not tested, the sum of a block, the listing, since when, and a register exported and imported. The C program
+//! `figures` calls these and the ledger in one run.
+pub mod register;
+
 use model::{Head, Post, Told};
 use std::slice;
 
@@ -62,4 +65,34 @@ pub unsafe extern "C" fn plain_listing(
 #[no_mangle]
 pub unsafe extern "C" fn plain_why(sheet: *const u8, n: usize, position: u32) -> u32 {
     model::why(slice::from_raw_parts(sheet, n), position).position
+}
+
+/// The register of a sheet; how long it is, 0 if it is refused.
+///
+/// # Safety
+/// `sheet` leads to `n` bytes and `out` to `room`.
+#[no_mangle]
+pub unsafe extern "C" fn plain_export(
+    sheet: *const u8,
+    n: usize,
+    out: *mut u8,
+    room: usize,
+) -> usize {
+    let out = slice::from_raw_parts_mut(out, room);
+    register::export(slice::from_raw_parts(sheet, n), out).bytes
+}
+
+/// The sheet of a register; how long it is, 0 if it is refused.
+///
+/// # Safety
+/// `text` leads to `n` bytes and `out` to `room`.
+#[no_mangle]
+pub unsafe extern "C" fn plain_import(
+    text: *const u8,
+    n: usize,
+    out: *mut u8,
+    room: usize,
+) -> usize {
+    let out = slice::from_raw_parts_mut(out, room);
+    register::import(slice::from_raw_parts(text, n), out).bytes
 }

@@ -1,14 +1,17 @@
 //! An outside model of the block desk, written from 01-scope.md and, for what came
-//! after it, from 02-change-requests.md alone.
+//! after it, from 02-change-requests.md alone; for item 3 also from RFC 4180.
 //!
 //! It says what the papers say, in their order, in the plainest way. "01, X" in a
 //! comment names the part X of the first, "02, item K" an item of the second.
 
+mod comma;
+mod decimal;
 mod events;
 mod line;
 mod listing;
 pub mod paper;
 pub mod program;
+mod register;
 mod sheet;
 pub mod stuck;
 mod why;
@@ -17,14 +20,15 @@ mod working;
 pub use events::{event, event_on_valid};
 pub use line::{kinds_right, relay, start, valid, Head, Post, Told, COUNT_LIMIT};
 pub use listing::listing;
+pub use register::{export, import, Exported, Imported, MOST_TEXT};
 pub use sheet::{
-    read, renew_check, write, Entry, Found, BLOCK_BYTES, CHECK, EVENTS_PER_BLOCK, MOST_BLOCKS,
-    MOST_EVENTS, UNANSWERED,
+    read, renew_check, sheet_length, write, Entry, Found, BLOCK_BYTES, CHECK, EVENTS_PER_BLOCK,
+    MOST_BLOCKS, MOST_EVENTS, UNANSWERED,
 };
 pub use why::{why, Since};
 pub use working::{work, Worked};
 
-/// 01, Numbers returned; 29 by 02, item 1; 22 and 23 by 02, item 2.
+/// 01, Numbers returned; 29 by 02, item 1; 22 and 23 by 02, item 2; 28 by 02, item 3.
 pub mod number {
     pub const TAKEN: u32 = 0;
     pub const NOT_VALID: u32 = 1;
@@ -50,5 +54,6 @@ pub mod number {
     pub const TOO_SHORT: u32 = 21;
     pub const JAMMED: u32 = 22;
     pub const NOT_JAMMED: u32 = 23;
+    pub const CANNOT_STAND: u32 = 28;
     pub const NOTHING_TO_TELL: u32 = 29;
 }

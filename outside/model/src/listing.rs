@@ -10,7 +10,7 @@ pub fn listing(sheet: &[u8]) -> String {
     let mut out = vec![0; sheet.len()];
     let worked = work(sheet, &mut out);
     if worked.number != TAKEN {
-        return refused_line(worked.number, worked.block);
+        return refused_line(worked.number, worked.block.into());
     }
     let mut text = String::new();
     let events = contents(&out).map_or(Vec::new(), |found| found.events);
@@ -23,9 +23,10 @@ pub fn listing(sheet: &[u8]) -> String {
     text
 }
 
-/// "A refused sheet prints only "refused", its number and the block."
-pub(crate) fn refused_line(number: u32, block: u32) -> String {
-    format!("refused {number} {block}\n")
+/// "A refused sheet prints only "refused", its number and the block"; a refused register
+/// has a record in the block's place.
+pub(crate) fn refused_line(number: u32, named: u64) -> String {
+    format!("refused {number} {named}\n")
 }
 
 /// "Position from 1, event, post, answer."

@@ -25,6 +25,29 @@ pub const LISTING: &str = "\
 S 0 1 1 0 1 1 1 0 1 0
 ";
 
+/// The register of these events with their answers, by 02, item 3.
+pub const REGISTER: &str = "\
+position,event,post,stamp,answer\r
+,,,0,\r
+,0,0,,\r
+,1,1,,\r
+1,1,0,1000,0\r
+2,4,0,2000,0\r
+3,5,0,3000,10\r
+4,2,0,4000,0\r
+5,1,0,5000,8\r
+6,5,0,6000,0\r
+7,3,1,7000,0\r
+8,8,0,8000,0\r
+9,6,1,9000,12\r
+10,3,1,10000,0\r
+11,6,1,11000,0\r
+12,9,0,12000,0\r
+13,1,0,13000,8\r
+14,10,0,14000,0\r
+15,1,0,15000,0\r
+";
+
 /// The events with the answers that the listing gives them.
 pub fn answered() -> Vec<Entry> {
     events_of(LISTING)

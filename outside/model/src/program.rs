@@ -1,15 +1,17 @@
-//! 01, The program and one listing, and the words that 02, item 1 gives the program.
+//! 01, The program and one listing, and the words that 02, items 1 and 3 give the program.
 
 use std::io::{self, Read, Write};
 
+use crate::decimal::decimal;
 use crate::listing::{event_line, listing, refused_line};
 use crate::number::TAKEN;
-use crate::sheet::contents;
+use crate::register::{export, import, MOST_TEXT};
+use crate::sheet::{contents, BLOCK_BYTES, MOST_BLOCKS};
 use crate::why::why;
 use crate::working::work;
 
 /// What the program says on standard error, each time alone.
-pub const USAGE: &str = "usage: desk [work | why POSITION] <SHEET\n";
+pub const USAGE: &str = "usage: desk [work | why POSITION | export | import] <INPUT\n";
 pub const UNREAD: &str = "the input could not be read\n";
 pub const UNWRITTEN: &str = "the output could not be written\n";
 
@@ -19,6 +21,8 @@ pub enum Asked {
     Listing,
     Worked,
     Why(u32),
+    Exported,
+    Imported,
 }
 
 /// What the program writes, on standard output and on standard error.
@@ -49,35 +53,43 @@ pub fn asked(words: &[&str]) -> Option<Asked> {
     match words {
         [] => Some(Asked::Listing),
         ["work"] => Some(Asked::Worked),
-        ["why", position] => position_of(position).map(Asked::Why),
+        ["why", position] => decimal(position).map(Asked::Why),
+        ["export"] => Some(Asked::Exported),
+        ["import"] => Some(Asked::Imported),
         _ => None,
     }
 }
 
-/// A decimal number of 32 bits, written in the only way: what is read of it and
-/// printed again is the word.
-fn position_of(word: &str) -> Option<u32> {
-    let position: u32 = word.parse().ok()?;
-    (position.to_string() == word).then_some(position)
-}
-
-/// What the program writes when it is asked for this and the sheet was read.
-pub fn wrote(asked: Asked, sheet: &[u8]) -> Wrote {
+/// What the program writes when it is asked for this and the input was read.
+pub fn wrote(asked: Asked, input: &[u8]) -> Wrote {
     match asked {
-        Asked::Listing => Wrote::printing(&listing(sheet)),
-        Asked::Worked => worked(sheet),
-        Asked::Why(position) => Wrote::printing(&why_text(sheet, position)),
+        Asked::Listing => Wrote::printing(&listing(input)),
+        Asked::Worked => made(input.len(), |out| {
+            let worked = work(input, out);
+            (worked.number, worked.block.into(), input.len())
+        }),
+        Asked::Why(position) => Wrote::printing(&why_text(input, position)),
+        Asked::Exported => made(MOST_TEXT, |out| {
+            let exported = export(input, out);
+            (exported.number, exported.block.into(), exported.bytes)
+        }),
+        Asked::Imported => made(MOST_BLOCKS * BLOCK_BYTES, |out| {
+            let imported = import(input, out);
+            (imported.number, imported.record, imported.bytes)
+        }),
     }
 }
 
-/// The worked sheet's bytes; a refusal is said on standard error, since standard
-/// output is the sheet.
-fn worked(sheet: &[u8]) -> Wrote {
-    let mut printed = vec![0; sheet.len()];
-    let worked = work(sheet, &mut printed);
-    if worked.number != TAKEN {
-        return Wrote::saying(&refused_line(worked.number, worked.block));
+/// The bytes that a call makes in a room of this size; it gives its number, its block or
+/// record, and how many they are. A refusal is said on standard error, since standard
+/// output is the sheet or the text.
+fn made(room: usize, call: impl Fn(&mut [u8]) -> (u32, u64, usize)) -> Wrote {
+    let mut printed = vec![0; room];
+    let (number, named, bytes) = call(&mut printed);
+    if number != TAKEN {
+        return Wrote::saying(&refused_line(number, named));
     }
+    printed.truncate(bytes);
     Wrote {
         printed,
         said: String::new(),
@@ -88,7 +100,7 @@ fn worked(sheet: &[u8]) -> Wrote {
 fn why_text(sheet: &[u8], position: u32) -> String {
     let since = why(sheet, position);
     if since.number != TAKEN {
-        return refused_line(since.number, since.block);
+        return refused_line(since.number, since.block.into());
     }
     let events = contents(sheet).map_or(Vec::new(), |found| found.events);
     match since.position {

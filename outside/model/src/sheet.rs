@@ -151,7 +151,7 @@ fn pack(number: u32, post: u32, answer: u32) -> u32 {
     number | post << 5 | answer << 11
 }
 
-fn in_its_field(entry: &Entry) -> bool {
+pub(crate) fn in_its_field(entry: &Entry) -> bool {
     entry[0] < 32 && entry[1] < 64 && entry[2] < 32
 }
 
@@ -171,17 +171,21 @@ pub fn write(kinds: &[u32], stamp: u32, events: &[Entry], out: &mut [u8]) -> u32
     if events.len() > MOST_EVENTS {
         return LENGTH;
     }
-    let mut blocks = vec![table_block(kinds, stamp)];
-    blocks.extend(events.chunks(EVENTS_PER_BLOCK).map(events_block));
-    let length = blocks.len() * BLOCK_BYTES;
-    if out.len() < length {
+    if out.len() < sheet_length(events.len()) {
         return TOO_SHORT;
     }
+    let mut blocks = vec![table_block(kinds, stamp)];
+    blocks.extend(events.chunks(EVENTS_PER_BLOCK).map(events_block));
     for (at, block) in blocks.iter_mut().enumerate() {
         set_check(block, at as u32);
         put_words(block, &mut out[at * BLOCK_BYTES..][..BLOCK_BYTES]);
     }
     TAKEN
+}
+
+/// Block 0, and a block for each 60 events or part of 60.
+pub fn sheet_length(events: usize) -> usize {
+    BLOCK_BYTES * (1 + events.div_ceil(EVENTS_PER_BLOCK))
 }
 
 fn table_block(kinds: &[u32], stamp: u32) -> Block {

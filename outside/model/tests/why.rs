@@ -200,5 +200,8 @@ fn the_programs_words() {
     for words in lines {
         assert_eq!(asked(words), None, "{words:?}");
     }
-    assert_eq!(USAGE, "usage: desk [work | why POSITION] <SHEET\n");
+    assert_eq!(
+        USAGE,
+        "usage: desk [work | why POSITION | export | import] <INPUT\n"
+    );
 }

@@ -95,19 +95,36 @@ impl<R: Read> Wire<R> {
                     fill: fill as u8,
                 })
             }
-            6 => {
-                let [bytes, out_len, fill] = self.few()?;
-                Ok(Request::Work {
-                    sheet: self.bytes(bytes as usize)?,
-                    out_len: out_len as usize,
-                    fill: fill as u8,
-                })
-            }
             8 => {
                 let [bytes, position] = self.few()?;
                 let sheet = self.bytes(bytes as usize)?;
                 Ok(Request::Why { sheet, position })
             }
+            _ => self.made_request(code),
+        }
+    }
+
+    /// The same for the calls that make bytes of bytes.
+    fn made_request(&mut self, code: u32) -> io::Result<Request> {
+        let [bytes, out_len, fill] = self.few()?;
+        let bytes = self.bytes(bytes as usize)?;
+        let (out_len, fill) = (out_len as usize, fill as u8);
+        match code {
+            6 => Ok(Request::Work {
+                sheet: bytes,
+                out_len,
+                fill,
+            }),
+            9 => Ok(Request::Export {
+                sheet: bytes,
+                out_len,
+                fill,
+            }),
+            10 => Ok(Request::Import {
+                text: bytes,
+                out_len,
+                fill,
+            }),
             _ => Err(io::ErrorKind::InvalidData.into()),
         }
     }

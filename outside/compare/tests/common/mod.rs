@@ -4,7 +4,7 @@
 
 use compare::cases::{sorts, Wanted};
 use compare::desk::{Desk, InProcess};
-use compare::run::{compare, Difference};
+use compare::run::{compare, compare_sorts, Difference};
 use compare::tally::Tally;
 use model::{Head, Post, Told};
 
@@ -13,6 +13,7 @@ pub const SMALL: Wanted = Wanted {
     rows: 20_000,
     sheets: 4_000,
     questions: 2_000,
+    texts: 20_000,
 };
 
 pub fn small_run(desk: impl Desk) -> Result<Tally, Difference> {
@@ -20,10 +21,23 @@ pub fn small_run(desk: impl Desk) -> Result<Tally, Difference> {
 }
 
 pub fn must_differ(name: &str, desk: impl Desk) {
-    match small_run(desk) {
+    is_found(name, small_run(desk));
+}
+
+fn is_found(name: &str, run: Result<Tally, Difference>) {
+    match run {
         Ok(_) => panic!("not found: {name}"),
         Err(difference) => println!("{name}: {}, {}", difference.name, difference.text),
     }
+}
+
+/// A small run of these sorts of cases alone.
+pub fn compare_only(names: &[&str], desk: impl Desk) -> Result<Tally, Difference> {
+    compare_sorts(&sorts(), 1, SMALL, names, &mut InProcess(desk))
+}
+
+pub fn must_differ_on(names: &[&str], name: &str, desk: impl Desk) {
+    is_found(name, compare_only(names, desk));
 }
 
 pub type Played<'a> = (&'a mut [Post], Head, [u32; 3]);

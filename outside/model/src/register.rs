@@ -1,0 +1,184 @@
+//! 02, item 3: the register in comma-separated text.
+
+use crate::comma::{records, Field};
+use crate::decimal::decimal;
+use crate::number::{CANNOT_STAND, TAKEN, TOO_SHORT};
+use crate::sheet::{contents, in_its_field, sheet_length, write, Contents};
+
+/// What an export returns. A refusal: its number and block, and 0 bytes.
+#[derive(Clone, Copy, Debug, Default, PartialEq, Eq)]
+pub struct Exported {
+    pub number: u32,
+    pub block: u32,
+    pub bytes: usize,
+}
+
+/// What an import returns. A refusal: its number, the record that 28 names (else 0), and
+/// 0 bytes.
+#[derive(Clone, Copy, Debug, Default, PartialEq, Eq)]
+pub struct Imported {
+    pub number: u32,
+    pub record: u64,
+    pub bytes: usize,
+}
+
+/// No register is longer: 32 posts and 3,780 events, every number at its longest.
+pub const MOST_TEXT: usize = 97_501;
+
+const HEADER: [&str; 5] = ["position", "event", "post", "stamp", "answer"];
+
+/// At post 31 only a 1 can stand, since a line has at most 32 posts.
+const LAST_POST: usize = 31;
+
+/// "Refusals: export as for reading, then 21."
+pub fn export(sheet: &[u8], out: &mut [u8]) -> Exported {
+    let refusal = |number, block| Exported {
+        number,
+        block,
+        bytes: 0,
+    };
+    let found = match contents(sheet) {
+        Ok(found) => found,
+        Err(refused) => return refusal(refused.number, refused.block),
+    };
+    let text = text_of(&found);
+    if out.len() < text.len() {
+        return refusal(TOO_SHORT, 0);
+    }
+    out[..text.len()].copy_from_slice(text.as_bytes());
+    Exported {
+        number: TAKEN,
+        block: 0,
+        bytes: text.len(),
+    }
+}
+
+/// "A header row (position,event,post,stamp,answer), one record with the start stamp in
+/// its field, one per kind (kind in the event field, post in its own), then one per event.
+/// Every record has five fields, unused ones empty, and line ends as that document has
+/// them; numbers have no leading zeros."
+fn text_of(found: &Contents) -> String {
+    let mut text = HEADER.join(",") + "\r\n";
+    text += &format!(",,,{},\r\n", found.stamp);
+    for (post, kind) in found.kinds.iter().enumerate() {
+        text += &format!(",{kind},{post},,\r\n");
+    }
+    for (position, [event, post, answer, stamp]) in (1..).zip(&found.events) {
+        text += &format!("{position},{event},{post},{stamp},{answer}\r\n");
+    }
+    text
+}
+
+/// "Import 28 with the number (the header is 1) of the first record that can't stand there
+/// in a right text of any length, or of the first one missing, then 18 for more than 3,780
+/// events, then 21."
+pub fn import(text: &[u8], out: &mut [u8]) -> Imported {
+    let refusal = |number, record| Imported {
+        number,
+        record,
+        bytes: 0,
+    };
+    let found = match contents_of(text) {
+        Ok(found) => found,
+        Err(record) => return refusal(CANNOT_STAND, record),
+    };
+    // A table and events that stand in a register can be written but for 18 and 21, which
+    // writing tests in that order.
+    match write(&found.kinds, found.stamp, &found.events, out) {
+        TAKEN => Imported {
+            number: TAKEN,
+            record: 0,
+            bytes: sheet_length(found.events.len()),
+        },
+        number => refusal(number, 0),
+    }
+}
+
+/// What the records say, or the number of the first that can't stand or is missing.
+fn contents_of(text: &[u8]) -> Result<Contents, u64> {
+    let mut found = Contents {
+        kinds: Vec::new(),
+        stamp: 0,
+        events: Vec::new(),
+    };
+    let records = records(text);
+    for (number, record) in (1..).zip(&records) {
+        let fields = record.as_deref().and_then(five);
+        if fields
+            .and_then(|five| stand(number, five, &mut found))
+            .is_none()
+        {
+            return Err(number);
+        }
+    }
+    if !is_ended(&found.kinds) {
+        return Err(records.len() as u64 + 1);
+    }
+    Ok(found)
+}
+
+/// "A 1 ends the table."
+fn is_ended(kinds: &[u32]) -> bool {
+    kinds.last() == Some(&1)
+}
+
+/// "Every record has five fields." What is no text at all is no right field either.
+fn five(fields: &[Field]) -> Option<[&str; 5]> {
+    let texts: Option<Vec<&str>> = fields.iter().map(|f| std::str::from_utf8(f).ok()).collect();
+    texts?.try_into().ok()
+}
+
+/// What the record of this number says, put to what those before it said; nothing if it
+/// can't stand behind them.
+fn stand(number: u64, fields: [&str; 5], found: &mut Contents) -> Option<()> {
+    match number {
+        1 => (fields == HEADER).then_some(()),
+        2 => {
+            found.stamp = start(fields)?;
+            Some(())
+        }
+        _ if !is_ended(&found.kinds) => {
+            let kind = kind(fields, found.kinds.len())?;
+            found.kinds.push(kind);
+            Some(())
+        }
+        _ => {
+            let position = (found.events.len() + 1).to_string();
+            let [event, post, stamp, answer] = event(fields, &position)?;
+            found.events.push([event, post, answer, stamp]);
+            Some(())
+        }
+    }
+}
+
+/// `,,,START,`
+fn start(fields: [&str; 5]) -> Option<u32> {
+    match fields {
+        ["", "", "", stamp, ""] => decimal(stamp),
+        _ => None,
+    }
+}
+
+/// `,KIND,POST,,`: "posts in order from 0; kind 0 first; 2, 3 or 4 between; a 1 ends the
+/// table, and at post 31 only a 1 can stand".
+fn kind(fields: [&str; 5], next: usize) -> Option<u32> {
+    let ["", kind, post, "", ""] = fields else {
+        return None;
+    };
+    let kind = decimal(kind)?;
+    let may = match next {
+        0 => kind == 0,
+        LAST_POST => kind == 1,
+        _ => (1..=4).contains(&kind),
+    };
+    (may && post == next.to_string()).then_some(kind)
+}
+
+/// `POSITION,EVENT,POST,STAMP,ANSWER`: "positions 1, 2, 3 and on; event below 32, post
+/// below 64, answer below 32, stamp below 2^32".
+fn event([position, event, post, stamp, answer]: [&str; 5], next: &str) -> Option<[u32; 4]> {
+    let [event, post] = [decimal(event)?, decimal(post)?];
+    let [stamp, answer] = [decimal(stamp)?, decimal(answer)?];
+    let may = in_its_field(&[event, post, answer, stamp]);
+    (may && position == next).then_some([event, post, stamp, answer])
+}
