@@ -1,10 +1,12 @@
 // The calls on a sheet for a panel written in C or Rust, beside those of `lent` on the row: `include/desk.h` declares them.
 // Each is the call below it, under that call's own contract.
 ghost use mathlib.Core.Path.{_≡_};
+ghost use Rattle.importing.specs.Importing.{Imports};
 ghost use Rattle.sheet.specs.Reading.{Reads, verdictOf};
 ghost use Rattle.sheet.specs.Writing.{Writes};
 ghost use Rattle.why.specs.Why.{sinceOf};
 ghost use Rattle.working.specs.Working.{Works};
+use importing::Imported;
 use sheet::Found;
 use sheet::Verdict;
 use why::Since;
@@ -48,4 +50,12 @@ pub extern "C" fn desk_why(s: &[u8], position: u32) -> Since
     ensures { λ r. ⌜ r ≡ sinceOf (now (s .entry)) position ⌝ }
 {
     why::since_when(s, position)
+}
+
+// Brings a register's text back to a sheet.
+#[no_mangle]
+pub extern "C" fn desk_import(text: &[u8], out: &mut [u8]) -> Imported
+    ensures { λ r. ⌜ Imports (now (text .entry)) r (now (out .entry)) (now (out .exit)) ⌝ }
+{
+    importing::import(text, out)
 }
