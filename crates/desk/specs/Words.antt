@@ -1,4 +1,4 @@
--- The words that the program is started with, and the job that they ask for: `desk`, `desk work`, `desk why POSITION`.
+-- The words that the program is started with, and the job that they ask for: `desk`, `desk work`, `desk why POSITION`, `desk export`, `desk import`.
 -- That a position is read exactly where the listing would write it so stands in proofs/Position.antt.
 -- Assumes nothing.
 use Prim.Native.Nat.{ℕ, _-_, _^_}
@@ -33,6 +33,12 @@ workWord = 119 ∷ 111 ∷ 114 ∷ 107 ∷ []
 abbrev pub whyWord : List ℕ
 whyWord = 119 ∷ 104 ∷ 121 ∷ []
 
+abbrev pub exportWord : List ℕ
+exportWord = 101 ∷ 120 ∷ 112 ∷ 111 ∷ 114 ∷ 116 ∷ []
+
+abbrev pub importWord : List ℕ
+importWord = 105 ∷ 109 ∷ 112 ∷ 111 ∷ 114 ∷ 116 ∷ []
+
 -- ---- what is asked for
 abbrev pub whyAt : Position → Job
 whyAt (Is n) = job.Why n
@@ -40,7 +46,9 @@ whyAt Wrong = job.Unknown
 
 -- a word alone
 unfoldable pub oneWord : List ℕ → Job
-oneWord w = pick (isWord w workWord) job.Work job.Unknown
+oneWord w =
+    pick (isWord w workWord) job.Work
+    (pick (isWord w exportWord) job.Export (pick (isWord w importWord) job.Import job.Unknown))
 
 -- a word and one after it
 unfoldable pub twoWords : List ℕ → List ℕ → Job

@@ -5,9 +5,12 @@ ghost use Rattle.stream.specs.Steps.{Within};
 mod since;
 mod words;
 
+use importing::steps;
+use importing::steps::State;
 use libc::STDERR_FILENO;
 use libc::STDIN_FILENO;
 use sheet::layout::MOST_BYTES;
+use sheet::layout::MOST_ENTRIES;
 use stream::Reading;
 use words::Job;
 
@@ -21,6 +24,9 @@ const ROOM: usize = MOST_BYTES + 1;
 const PIECE: usize = 65536;
 
 const PIECES: u32 = 32768;
+
+// A text is read in as many pieces as 2 to the 64th bytes have.
+const TEXT_PIECES: u64 = 281474976710656;
 
 // Reads on to the end of an input longer than any sheet, of which n bytes are read, so that whoever writes it is not cut off; an input that never ends is left after two gigabytes. Whether no read failed.
 fn drain(n: usize) -> bool {
@@ -93,6 +99,40 @@ fn say_since(position: u32) {
     stream::print(&line[..m]);
 }
 
+// Prints the sheet that the register's text on standard input says: read in pieces, to its end, however long it is. A refusal is told on standard error.
+fn import_text() {
+    let mut kinds = [0u32; 32];
+    let mut events = [[0u32; 4]; MOST_ENTRIES];
+    let mut room = [0u8; PIECE];
+    let mut s = steps::begin();
+    let mut i: u64 = 0;
+    while i < TEXT_PIECES {
+        let Reading::Whole(n) = stream::read_whole(STDIN_FILENO, &mut room) else {
+            stream::tell_unread();
+            return;
+        };
+        s = importing::feed(&room[..n], s, &mut kinds, &mut events);
+        if n < PIECE {
+            print_imported(s, kinds, events);
+            return;
+        }
+        i += 1;
+    }
+    stream::tell_unread();
+}
+
+// Prints the sheet that was fed.
+fn print_imported(s: State, mut kinds: [u32; 32], mut events: [[u32; 4]; MOST_ENTRIES]) {
+    let mut out = [0u8; MOST_BYTES];
+    let done = importing::settle(s, &mut kinds, &mut events, &mut out);
+    if done.number != 0 {
+        tell_refused(done.number, done.at);
+        return;
+    }
+    let n = done.bytes;
+    stream::print(&out[..n]);
+}
+
 // Says on standard error that the sheet is refused, and where.
 fn tell_refused(number: u32, place: u64) {
     let mut line = [0u8; listing::LINE];
@@ -102,7 +142,10 @@ fn tell_refused(number: u32, place: u64) {
 
 // Says on standard error, in one line, what the words may be.
 fn tell_usage() {
-    stream::write_whole(STDERR_FILENO, b"usage: desk [work | why POSITION] <SHEET\n");
+    stream::write_whole(
+        STDERR_FILENO,
+        b"usage: desk [work | why POSITION | export | import] <INPUT\n",
+    );
 }
 
 // The job that the program's words ask for.
@@ -120,6 +163,8 @@ fn main() {
         Job::List => list_sheet(),
         Job::Work => work_sheet(),
         Job::Why(position) => say_since(position),
+        Job::Export => tell_usage(),
+        Job::Import => import_text(),
         Job::Unknown => tell_usage(),
     }
 }

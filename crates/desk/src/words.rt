@@ -13,6 +13,8 @@ pub enum Job {
     List,
     Work,
     Why(u32),
+    Export,
+    Import,
     Unknown,
 }
 
@@ -49,6 +51,12 @@ fn one_word(word: &[u8]) -> Job
 {
     if is(word, b"work") {
         return Job::Work;
+    }
+    if is(word, b"export") {
+        return Job::Export;
+    }
+    if is(word, b"import") {
+        return Job::Import;
     }
     Job::Unknown
 }

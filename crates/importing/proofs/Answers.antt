@@ -1,24 +1,23 @@
 -- What settling answers after a text is what import is to answer of it.
 -- Assumes nothing.
-use Prim.Native.Nat.{ℕ, suc, _+_, _≤_, _<_, _^_}
+use Prim.Native.Nat.{ℕ, suc, _≤_, _<_, _^_}
 use mathlib.Core.Path.{_≡_, refl, sym, ap, _∙_}
 use mathlib.Core.Logic.{_⊎_, inl, inr}
 use mathlib.Core.Bool.{Bool, true, false, not, _&&_}
 use mathlib.Core.List.{List, _++_}
 use native.Mathlib.Omega.{arith}
-use borrow.Author.Tests.{eq-eqb, ne-eqb, le-leb, leb-true, lt-leb, lt-ltb, le-ltb, ltb-true, ltb-false}
-use lib.Dec.{eqb, leb, ltb}
-use lib.ListN.{length, take, drop}
+use borrow.Author.Tests.{eq-eqb, ne-eqb, le-leb, leb-true, lt-leb, lt-ltb, le-ltb}
+use lib.Dec.{eqb, leb}
+use lib.ListN.{length, drop}
 use Rattle.relay.specs.Choice.{pick}
-use Rattle.relay.specs.Kinds.{countFits, kindsFit, tableOk}
+use Rattle.relay.specs.Kinds.{countFits, tableOk}
 use Rattle.relay.proofs.Truth.{by, and-facts, split, least-or-below}
 use Rattle.sheet.specs.Layout.{mostEntries, lengthWrong, roomShort}
 use Rattle.sheet.specs.Sheet.{Sheet, encode}
 use Rattle.sheet.specs.Writing.{bytesFor, writeNumber, written}
 use Rattle.sheet.proofs.Writable.{Writable}
-use Rattle.register.specs.Lexer.{Lexed, lexText, isWhole, whole}
-use Rattle.register.specs.Reading.{nothing, standing, after}
-use Rattle.register.specs.Records.{Right}
+use Rattle.register.specs.Lexer.{lexText, isWhole}
+use Rattle.register.specs.Reading.{nothing, after}
 use Rattle.register.specs.Register.{wrongRecord, isEvents, recordsIn, standIn, accepts, named, sheetIn}
 use Rattle.register.specs.Texts.{lineEnd}
 use Rattle.register.specs.declared.Mode.the-variants.{Broken}

@@ -1,41 +1,40 @@
 -- The end of a record: it goes on exactly where the record stands, and what is known then is what the record says; else what stands before it is counted.
 -- Assumes nothing.
-use Prim.Native.Nat.{ℕ, zero, suc, _+_, _*_, _≤_, _<_, _^_, min}
-use mathlib.Core.Path.{_≡_, refl, sym, ap, ap₂, _∙_}
-use mathlib.Core.Logic.{_⊎_, inl, inr}
+use Prim.Native.Nat.{ℕ, suc, _+_, _≤_, _<_, _^_, min}
+use mathlib.Core.Path.{_≡_, refl, sym, ap, _∙_}
+use mathlib.Core.Logic.{inl, inr}
 use mathlib.Core.Bool.{Bool, true, false, _&&_}
 use mathlib.Core.List.{List, [], _∷_, _++_}
 use native.Mathlib.Omega.{arith}
 use borrow.Author.Tests.{le-leb, leb-true, eq-eqb, ne-eqb}
 use lib.Dec.{eqb, leb, ltb}
-use lib.ListN.{length, getD, length-append}
+use lib.ListN.{length, length-append}
 use Rattle.relay.specs.Choice.{pick}
-use Rattle.relay.specs.Kinds.{terminus}
 use Rattle.relay.proofs.Truth.{and-facts, split}
 use Rattle.sheet.specs.Entry.{entry}
 use Rattle.sheet.specs.Sheet.{Sheet}
 use Rattle.digits.specs.Digits.{value}
 use Rattle.digits.specs.Numerals.{marked}
 use Rattle.register.specs.Lexer.{Lexed, lexed, snoc}
-use Rattle.register.specs.Reading.{Read, nothing, num, eventIn, stands, takenAs, taken, standing, after}
-use Rattle.register.specs.Records.{header, startRecord, kindRecords, eventRecords, records}
+use Rattle.register.specs.Reading.{Read, nothing, num, eventIn, stands, takenAs, after}
+use Rattle.register.specs.Records.{kindRecords, eventRecords, records}
 use Rattle.register.specs.Texts.{Field, said, saidIn, saidAll}
 use Rattle.register.specs.declared.Mode.the-variants.{Start, Broken}
 use Rattle.register.specs.declared.Stage.{Stage}
 use Rattle.register.specs.declared.Stage.the-variants.{AtHeader, AtStart, AtKinds, AtEvents}
 use Rattle.register.proofs.Import.{said-append}
 use Rattle.register.proofs.More.{after-more, standing-more, standing-fell, kinds-many, events-many}
-use Rattle.register.proofs.Places.{fit, stands-fit, stands-five}
+use Rattle.register.proofs.Places.{stands-fit, stands-five}
 use Rattle.register.proofs.Prefixes.{held-all}
 use Rattle.register.proofs.Standing.{Held}
 use Rattle.register.proofs.Tables.{begun-few}
 use Rattle.importing.specs.Importing.{recordAt}
 use Rattle.importing.specs.Rooms.{Fed, entryIn, keptKind, keptEvent, keptAt}
-use Rattle.importing.specs.Steps.{marksOf, numberIn, isBelow, mostCounted, stopped, onward, startStands, kindStands, eventStands, judged, recordEnded}
+use Rattle.importing.specs.Steps.{numberIn, isBelow, mostCounted, stopped, onward, startStands, kindStands, eventStands, judged, recordEnded}
 use Rattle.importing.specs.declared.steps.Marks.{Marks}
 use Rattle.importing.specs.declared.steps.State.{State}
 use Rattle.importing.proofs.Follows.{On, Off, Follows, known, standing-in, marksFrom, mark-none}
-use Rattle.importing.proofs.Judged.{markOf, standsBy, goesOn, judged-by, Room, five, five-stand}
+use Rattle.importing.proofs.Judged.{standsBy, goesOn, judged-by, Room, five, five-stand}
 use Rattle.importing.proofs.Kept.{Kept, kept-more, same-kinds, same-events, one-kind, one-event}
 use Rattle.importing.proofs.Marks.{number-says}
 

@@ -5,9 +5,8 @@ use mathlib.Core.Path.{_≡_, refl}
 use mathlib.Core.List.{List, [], _∷_, _++_}
 use native.Mathlib.Numerals.{add-one}
 use lib.Dec.{eqb}
-use lib.ListN.{length, getD, set, drop, drop-of-length-le, length-set}
+use lib.ListN.{length, getD, drop, drop-of-length-le, length-set}
 use lib.Seq.{drop-cons}
-use Rattle.relay.specs.Choice.{pick}
 use Rattle.relay.proofs.Truth.{by}
 use Rattle.importing.specs.Rooms.{Fed, keptKind, keptEvent, entryIn, fedNext, fed}
 use Rattle.importing.specs.Steps.{numberIn}

@@ -1,20 +1,18 @@
 -- A text taken a byte at a time, by value, follows what is read of it: as long as every record stands, what is known by value is what the records say; from the first that does not, it counts those before.
 -- Assumes nothing.
-use Prim.Native.Nat.{ℕ, zero, suc, _+_, _*_, _≤_, _<_, _^_, min}
-use mathlib.Core.Path.{_≡_, refl, sym, ap, _∙_}
-use mathlib.Core.Logic.{_⊎_, inl, inr}
-use mathlib.Core.Bool.{Bool, true, false, _&&_}
-use mathlib.Core.List.{List, [], _∷_, _++_}
+use Prim.Native.Nat.{ℕ, zero, suc, _+_, _≤_, _<_, min}
+use mathlib.Core.Path.{_≡_, refl, sym, ap}
+use mathlib.Core.Logic.{_⊎_}
+use mathlib.Core.List.{List, [], _∷_}
 use native.Mathlib.Omega.{arith}
 use borrow.Author.Tests.{lt-ltb}
-use lib.ListN.{length, getD, length-append}
+use lib.ListN.{length, length-append}
 use Rattle.relay.proofs.Truth.{least-or-below}
 use Rattle.digits.specs.Numerals.{marked}
 use Rattle.digits.proofs.Numerals.{marked-more}
-use Rattle.register.specs.Lexer.{class, action, adding, fieldOf, Lexed, lexed, snoc, act, step}
+use Rattle.register.specs.Lexer.{adding, fieldOf, Lexed, lexed, snoc}
 use Rattle.register.specs.Reading.{Read, nothing, standing, after}
-use Rattle.register.specs.Records.{header}
-use Rattle.register.specs.Texts.{Field, said, saidIn, saidAll}
+use Rattle.register.specs.Texts.{Field, said, saidAll}
 use Rattle.register.specs.declared.Mode.{Mode}
 use Rattle.register.specs.declared.Mode.the-variants.{Start, Plain, Inside, Closing, AtCr, Broken}
 use Rattle.register.specs.declared.Stage.{Stage}

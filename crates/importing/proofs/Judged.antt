@@ -1,21 +1,19 @@
 -- A record that has ended goes on exactly where its fields stand: the tests on its marks are those on its fields.
 -- Assumes nothing.
-use Prim.Native.Nat.{ℕ, zero, suc, _+_, _≤_, _<_, _^_}
-use mathlib.Core.Path.{_≡_, refl, sym, ap, _∙_}
-use mathlib.Core.Bool.{Bool, true, false, _&&_}
-use mathlib.Core.List.{List, [], _∷_}
+use Prim.Native.Nat.{ℕ, suc, _+_, _<_, _^_}
+use mathlib.Core.Path.{_≡_, refl}
+use mathlib.Core.Bool.{Bool}
+use mathlib.Core.List.{List}
 use native.Mathlib.Omega.{arith}
 use borrow.Author.Tests.{lt-ltb}
 use lib.Dec.{eqb}
-use lib.ListN.{length}
 use Rattle.relay.specs.Choice.{pick}
 use Rattle.relay.specs.Kinds.{terminus}
-use Rattle.digits.specs.Numerals.{limit, marked}
-use Rattle.register.specs.Records.{header}
+use Rattle.digits.specs.Numerals.{marked}
 use Rattle.register.specs.declared.Stage.{Stage}
 use Rattle.register.specs.declared.Stage.the-variants.{AtHeader, AtStart, AtKinds, AtEvents}
 use Rattle.register.proofs.Places.{fit}
-use Rattle.importing.specs.Steps.{marksOf, word, numberIn, isBelow, mostCounted, onward, stopped, headerStands, startStands, kindStands, eventStands, afterHeader, afterStart, afterKind, afterEvent, judged}
+use Rattle.importing.specs.Steps.{marksOf, word, numberIn, mostCounted, onward, stopped, headerStands, startStands, kindStands, eventStands, afterHeader, afterStart, afterKind, afterEvent, judged}
 use Rattle.importing.specs.declared.steps.Marks.{Marks}
 use Rattle.importing.specs.declared.steps.State.{State}
 use Rattle.importing.proofs.Letters.{lettered}

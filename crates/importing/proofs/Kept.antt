@@ -1,16 +1,14 @@
 -- What is kept of the records that stand: at the front of its room, as long as it fits.
 -- Assumes nothing.
-use Prim.Native.Nat.{ℕ, suc, _+_, _≤_, _<_}
-use mathlib.Core.Path.{_≡_, refl, sym, ap, _∙_}
+use Prim.Native.Nat.{ℕ, _+_, _≤_, _<_}
+use mathlib.Core.Path.{_≡_, refl, ap, _∙_}
 use mathlib.Core.List.{List, [], _∷_, _++_}
 use native.Mathlib.Numerals.{add-one}
 use native.Mathlib.Omega.{arith}
 use borrow.Author.Tests.{eq-eqb, ne-eqb}
-use lib.Dec.{eqb}
 use lib.ListN.{length, set, take, length-append, length-set}
 use lib.Seq.{take-suc-set}
-use Rattle.relay.specs.Choice.{pick}
-use Rattle.importing.specs.Rooms.{Fed, fedAt, entryIn, keptKind, keptEvent, keptAt, fedNext, fed}
+use Rattle.importing.specs.Rooms.{Fed, entryIn, keptKind, keptEvent, fedNext, fed}
 use Rattle.importing.specs.Steps.{numberIn, stateNext}
 use Rattle.importing.specs.declared.steps.State.{State}
 use Rattle.importing.proofs.Fold.{kinds-long, events-long}

@@ -1,15 +1,14 @@
 -- Byte after byte, a text taken by value follows what is read of it; and so it does at its end.
 -- Assumes nothing.
-use Prim.Native.Nat.{ℕ, zero, suc, _+_, _*_, _≤_, _<_, _^_, min}
+use Prim.Native.Nat.{ℕ, suc, _+_, _<_, _^_, min}
 use mathlib.Core.Path.{_≡_, refl, sym, ap, subst, _∙_}
 use mathlib.Core.Logic.{_⊎_, inl, inr}
-use mathlib.Core.Bool.{Bool, true, false, _&&_}
+use mathlib.Core.Bool.{true, false, _&&_}
 use mathlib.Core.List.{List, [], _∷_, _++_, append-assoc, append-nil}
 use native.Mathlib.Omega.{arith}
 use borrow.Author.Tests.{eq-eqb, ne-eqb}
 use lib.Dec.{eqb}
 use lib.ListN.{length, length-append}
-use Rattle.relay.specs.Choice.{pick}
 use Rattle.relay.proofs.Truth.{split}
 use Rattle.register.specs.Lexer.{class, action, Lexed, lexed, snoc, part, act, step, run, begin, whole, isWhole, finish, lexText}
 use Rattle.register.specs.Reading.{nothing, standing, after}

@@ -18,7 +18,7 @@ use Rattle.register.specs.declared.Mode.{Mode}
 use Rattle.register.specs.declared.Mode.the-variants.{Start, Plain, Inside, Closing, AtCr, Broken}
 use Rattle.register.specs.declared.Stage.{Stage}
 use Rattle.register.specs.declared.Stage.the-variants.{AtHeader, AtStart, AtKinds, AtEvents}
-use Rattle.importing.specs.Rooms.{Fed, fedAt, fed}
+use Rattle.importing.specs.Rooms.{Fed, fed}
 use Rattle.importing.specs.Steps.{mostCounted}
 use Rattle.importing.specs.declared.Imported.{Imported}
 use Rattle.importing.specs.declared.steps.State.{State}

@@ -1,8 +1,8 @@
 -- Import: which texts it accepts, what it makes of them, and which record 28 names. All of it is over right texts: what is read of a text is spelled by it (Spelled), and what spells it is read (Lexes).
 -- Assumes nothing.
-use Prim.Native.Nat.{ℕ, zero, suc, _+_, _≤_, _<_}
+use Prim.Native.Nat.{ℕ, zero, suc, _≤_, _<_}
 use mathlib.Core.Path.{_≡_, refl, sym, ap, ap₂, _∙_}
-use mathlib.Core.Bool.{Bool, true, false, _&&_, false≢true}
+use mathlib.Core.Bool.{Bool, true, false, false≢true}
 use mathlib.Core.List.{List, [], _∷_, _++_, append-assoc, append-nil}
 use mathlib.Core.Logic.{_↔_}
 use native.Mathlib.Omega.{arith}
@@ -13,7 +13,6 @@ use lib.Seq.{length-take-le}
 use Rattle.relay.proofs.Truth.{and-facts, split, least-or-below}
 use Rattle.sheet.specs.Entry.{numberOf, postOf, answerOf, stampOf}
 use Rattle.sheet.specs.Sheet.{Sheet}
-use Rattle.digits.specs.Digits.{digits}
 use Rattle.register.specs.Texts.{cr, lf, lineEnd, Field, bare, line, lines, saidIn, saidAll, bareIn, bareAll}
 use Rattle.register.specs.Lexer.{class, Lexed, lexed, snoc, commas, part, spelled, act, step, run, begin, whole, isWhole, finish, lexText}
 use Rattle.register.specs.declared.Mode.{Mode}

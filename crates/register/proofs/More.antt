@@ -1,16 +1,16 @@
 -- One record more: what stands and what is known after it, from the records before it.
 -- Assumes nothing.
-use Prim.Native.Nat.{ℕ, suc, _+_, _*_, _≤_, _<_}
+use Prim.Native.Nat.{ℕ, suc, _*_, _≤_, _<_}
 use mathlib.Core.Path.{_≡_, refl, sym, ap, _∙_}
 use mathlib.Core.Bool.{true, false}
 use mathlib.Core.List.{List, [], _∷_, _++_}
 use native.Mathlib.Omega.{arith}
 use lib.ListN.{length, length-append}
 use Rattle.relay.proofs.Truth.{split}
-use Rattle.register.specs.Lexer.{run, begin, lexed, part, spelled, commas}
+use Rattle.register.specs.Lexer.{run, begin, part, spelled}
 use Rattle.register.specs.Reading.{Read, stands, taken, standing, after}
 use Rattle.register.specs.Records.{kindRecords, eventRecords}
-use Rattle.register.specs.Texts.{Field, line, lines}
+use Rattle.register.specs.Texts.{Field, lines}
 use Rattle.register.proofs.Prefixes.{stood, fell, empty}
 use Rattle.register.proofs.Spelled.{nothing-spelled, run-spelled}
 

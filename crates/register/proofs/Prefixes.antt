@@ -1,21 +1,20 @@
 -- The records that stand, from the first on: they are the beginning of a right sheet's records, and no more of them are.
-use Prim.Native.Nat.{ℕ, zero, suc, _+_, _^_, _≤_, _<_}
-use mathlib.Core.Path.{_≡_, refl, sym, ap, ap₂, subst, _∙_}
-use mathlib.Core.Bool.{Bool, true, false, _&&_, _||_, false≢true}
+use Prim.Native.Nat.{ℕ, zero, suc, _+_, _^_, _≤_}
+use mathlib.Core.Path.{_≡_, refl, sym, ap, subst, _∙_}
+use mathlib.Core.Bool.{Bool, true, false, _&&_}
 use mathlib.Core.List.{List, [], _∷_, _++_, append-assoc, append-nil}
 use native.Mathlib.Omega.{arith}
-use lib.Dec.{eqb, ltb, leb}
-use lib.ListN.{length, getD, take, drop, length-append}
-use Rattle.relay.specs.Choice.{pick}
-use Rattle.relay.specs.Kinds.{countFits, kindFits, kindsFit, tableOk, between}
-use Rattle.relay.proofs.Truth.{and-facts, split}
+use lib.Dec.{ltb}
+use lib.ListN.{length, take}
+use Rattle.relay.specs.Kinds.{countFits, kindFits, kindsFit, tableOk}
+use Rattle.relay.proofs.Truth.{split}
 use Rattle.sheet.specs.Sheet.{Sheet}
 use Rattle.register.specs.Records.{header, startRecord, kindRecord, eventRecord, kindRecords, eventRecords, records, rightEvents, Right}
 use Rattle.register.specs.declared.Stage.{Stage}
 use Rattle.register.specs.declared.Stage.the-variants.{AtHeader, AtStart, AtKinds, AtEvents}
-use Rattle.register.specs.Reading.{Read, known, nothing, same, alike, num, eventIn, wanted, within, stands, takenAs, taken, standing, after}
+use Rattle.register.specs.Reading.{Read, same, alike, wanted, stands, takenAs, taken, standing, after}
 use Rattle.register.proofs.Tables.{begun, begun-ended}
-use Rattle.register.proofs.Standing.{kinds-snoc, Held, keeps, All, right-stands}
+use Rattle.register.proofs.Standing.{kinds-snoc, Held, keeps}
 
 abbrev Rec : Type 0
 Rec = List (List ℕ)

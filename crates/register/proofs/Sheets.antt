@@ -1,12 +1,11 @@
 -- A right sheet of at most 3,780 events is a sheet that can be written, and the other way round; so the sheet crate's round trips serve.
-use Prim.Native.Nat.{ℕ, zero, suc, _+_, _*_, _/_, _^_, _≤_, _<_}
-use mathlib.Core.Path.{_≡_, refl, sym, ap, _∙_}
-use mathlib.Core.Bool.{Bool, true, false, _&&_, _||_, false≢true}
-use mathlib.Core.List.{List, [], _∷_, _++_}
+use Prim.Native.Nat.{ℕ, zero, suc, _+_, _^_, _≤_, _<_}
+use mathlib.Core.Path.{_≡_, refl, ap, _∙_}
+use mathlib.Core.Bool.{true}
+use mathlib.Core.List.{List, [], _∷_}
 use native.Mathlib.Omega.{arith}
-use native.Mathlib.Numerals.{add-one}
 use borrow.Author.Tests.{eq-eqb, eqb-true, ltb-true, lt-ltb}
-use lib.Dec.{eqb, ltb}
+use lib.Dec.{eqb}
 use lib.ListN.{length, getD}
 use Rattle.relay.specs.Choice.{pick}
 use Rattle.relay.specs.Kinds.{between, countFits, kindFits, kindsFit, tableOk}
@@ -15,11 +14,10 @@ use Rattle.sheet.specs.Entry.{inFields, stampOf}
 use Rattle.sheet.specs.Layout.{mostEntries}
 use Rattle.sheet.specs.Sheet.{Sheet, eventAt, encode}
 use Rattle.sheet.specs.Reading.{verdictOf, blocksIn, decode}
-use Rattle.sheet.specs.Writing.{allInFields}
 use Rattle.sheet.proofs.Bytes.{Below}
 use Rattle.sheet.proofs.Fields.{each, every}
 use Rattle.sheet.proofs.Writable.{Writable}
-use Rattle.sheet.proofs.Trips.{written-accepted, written-read, read-written}
+use Rattle.sheet.proofs.Trips.{read-written}
 use Rattle.sheet.proofs.Accepts.{accepted-good}
 use Rattle.sheet.proofs.TripRead.{decoded-writable}
 use Rattle.register.specs.Records.{rightEvent, rightEvents, Right}

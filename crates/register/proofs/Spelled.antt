@@ -8,7 +8,7 @@ use borrow.Author.Tests.{eqb-true}
 use lib.Dec.{eqb}
 use Rattle.relay.specs.Choice.{pick}
 use Rattle.register.specs.Texts.{quote, comma, cr, lf, Field, bare, quoted, fieldText, line, lines}
-use Rattle.register.specs.Lexer.{class, opening, inPlain, inQuotes, afterQuote, afterCr, action, Lexed, lexed, snoc, commas, part, spelled, adding, act, step, run, begin}
+use Rattle.register.specs.Lexer.{class, action, Lexed, lexed, snoc, commas, part, spelled, adding, act, step, run, begin}
 use Rattle.register.specs.declared.Class.{Class}
 use Rattle.register.specs.declared.Class.the-variants.{Quote, Comma, Cr, Lf, Other}
 use Rattle.register.specs.declared.Mode.{Mode}

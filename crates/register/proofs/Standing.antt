@@ -1,19 +1,17 @@
 -- Records to a sheet. Forward: the records of a right sheet all stand, and say that sheet. Back: what stands is the beginning of a right sheet's records.
-use Prim.Native.Nat.{ℕ, zero, suc, _+_, _^_, _≤_, _<_}
+use Prim.Native.Nat.{ℕ, suc, _+_, _^_, _≤_}
 use mathlib.Core.Path.{_≡_, refl, sym, ap, ap₂, _∙_}
-use mathlib.Core.Bool.{Bool, true, false, _&&_, _||_, false≢true}
+use mathlib.Core.Bool.{true, false, _&&_, false≢true}
 use mathlib.Core.List.{List, [], _∷_, _++_, append-assoc, append-nil}
 use native.Mathlib.Omega.{arith}
-use native.Mathlib.Numerals.{add-one}
-use borrow.Author.Tests.{eq-eqb, eqb-true, leb-true, ltb-true}
+use borrow.Author.Tests.{eqb-true, leb-true}
 use lib.Dec.{eqb, ltb, leb}
-use lib.ListN.{length, getD, take, length-append}
+use lib.ListN.{length, length-append}
 use Rattle.relay.specs.Choice.{pick}
 use Rattle.relay.specs.Kinds.{countFits, kindFits, kindsFit, tableOk}
 use Rattle.relay.proofs.Truth.{and-facts, split}
-use Rattle.sheet.specs.Entry.{entry, numberOf, postOf, answerOf, stampOf, inFields}
+use Rattle.sheet.specs.Entry.{stampOf, inFields}
 use Rattle.sheet.specs.Sheet.{Sheet}
-use Rattle.digits.specs.Digits.{digits, value}
 use Rattle.register.specs.Records.{header, startRecord, kindRecord, eventRecord, kindRecords, eventRecords, records, rightEvent, rightEvents, Right}
 use Rattle.register.specs.declared.Stage.{Stage}
 use Rattle.register.specs.declared.Stage.the-variants.{AtHeader, AtStart, AtKinds, AtEvents}

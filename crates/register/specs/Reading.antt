@@ -1,13 +1,13 @@
 -- Records to a sheet: what may stand next, and what is then known of the sheet.
 -- Assumes nothing.
-use Prim.Native.Nat.{ℕ, zero, suc, _+_, _^_}
+use Prim.Native.Nat.{ℕ, suc, _^_}
 use mathlib.Core.Bool.{Bool, true, false, _&&_, _||_}
 use mathlib.Core.List.{List, [], _∷_, _++_}
 use lib.Dec.{eqb, ltb}
 use lib.ListN.{length, getD}
 use Rattle.relay.specs.Choice.{pick}
 use Rattle.relay.specs.Kinds.{origin, terminus, between}
-use Rattle.sheet.specs.Entry.{entry, stampOf, inFields}
+use Rattle.sheet.specs.Entry.{entry, inFields}
 use Rattle.sheet.specs.Sheet.{Sheet}
 use Rattle.register.specs.declared.Stage.{Stage}
 use Rattle.register.specs.declared.Stage.the-variants.{AtHeader, AtStart, AtKinds, AtEvents}

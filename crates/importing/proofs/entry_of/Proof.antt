@@ -1,29 +1,22 @@
+-- `importing::entry_of` meets its contract, number by number.
+-- Assumes nothing.
 use Rattle.relay.proofs.Tests.{tests}
-use borrow.Author.Needs.{needs}
 use Rattle.importing.specs.Rooms.{entryIn}
 use Rattle.importing.proofs.entry_of.Statement.{statement}
 use Rattle.importing.proofs.entry_of.Tie as tie
-use Rattle.importing.proofs.entry_of.Reads as reads
-use Rattle.importing.proofs.entry_of.Lts as lts
-use Rattle.importing.proofs.stands.number_of.Reads as number-of-reads
 
--- src/lib.rt:32:9
 number-of-requires : tie.Need-number-of-requires
 number-of-requires c κs = search tests
 
--- src/lib.rt:33:9
 number-of-requires-2 : tie.Need-number-of-requires-2
 number-of-requires-2 c κs = search tests
 
--- src/lib.rt:34:9
 number-of-requires-3 : tie.Need-number-of-requires-3
 number-of-requires-3 c κs = search tests
 
--- src/lib.rt:35:9
 number-of-requires-4 : tie.Need-number-of-requires-4
 number-of-requires-4 c κs = search tests
 
--- src/lib.rt:28:1
 returns : tie.Need-returns
 unfolding entryIn
 returns c = rw (c .before .before .before .number-of .ensures, c .before .before .number-of2 .ensures, c .before .number-of3 .ensures, c .number-of4 .ensures)

@@ -1,18 +1,14 @@
-use Prim.Native.Nat.{ℕ, _+_, _-_, _≤_}
+-- `importing::feed` meets its contract: what is left of the text decides, and the rooms keep their lengths.
+-- Assumes nothing.
+use Prim.Native.Nat.{_+_, _-_, _≤_}
 use mathlib.Core.Path.{_≡_, refl, sym, ap, _∙_}
-use mathlib.Core.List.{List}
 use native.Mathlib.Omega.{arith}
 use lib.ListN.{length, drop, getD}
+use Rattle.relay.proofs.Tests.{tests}
 use Rattle.importing.specs.Rooms.{Fed, fedAt, fed, fedNext}
 use Rattle.importing.proofs.Fold.{fold-more, fold-end, kinds-long, events-long}
-use Rattle.relay.proofs.Tests.{tests}
 use Rattle.importing.proofs.feed.Statement.{statement}
 use Rattle.importing.proofs.feed.Tie as tie
-use Rattle.importing.proofs.feed.Reads as reads
-use Rattle.importing.proofs.feed.Lts as lts
-use Rattle.importing.proofs.keep_event.Reads as keep-event-reads
-use Rattle.importing.proofs.keep_kind.Reads as keep-kind-reads
-use Rattle.importing.proofs.steps.step.Reads as step-reads
 
 abbrev Inv-loop : tie.InvT-loop
 Inv-loop text kinds₀ events₀ last₀ i₀ kinds events last i =
@@ -24,38 +20,30 @@ Inv-loop text kinds₀ events₀ last₀ i₀ kinds events last i =
 abbrev μ-loop : tie.MeasureT-loop
 μ-loop text kinds₀ events₀ last₀ i₀ kinds events last i = length text - i
 
--- src/lib.rt:75:5
 loop-holds : tie.Need-loop-holds Inv-loop μ-loop
 loop-holds c = (omega arith, refl, refl, refl)
 
--- src/lib.rt:76:38
 shared-slice-read-step : tie.Need-shared-slice-read-step Inv-loop μ-loop
 shared-slice-read-step c = search tests
 
--- src/lib.rt:76:13
 step-requires : tie.Need-step-requires Inv-loop μ-loop
 step-requires c κs = search tests
 
--- src/lib.rt:77:9
 keep-kind-requires : tie.Need-keep-kind-requires Inv-loop μ-loop
 keep-kind-requires c κs = search tests
 
--- src/lib.rt:78:9
 keep-event-requires : tie.Need-keep-event-requires Inv-loop μ-loop
 keep-event-requires c κs = search tests
 
--- src/lib.rt:80:9
 add-i : tie.Need-add-i Inv-loop μ-loop
 add-i c = search tests
 
--- src/lib.rt:75:5
 loop-less : tie.Need-loop-less Inv-loop μ-loop
 loop-less c = search tests
 
--- src/lib.rt:75:5
 loop-again : tie.Need-loop-again Inv-loop μ-loop
 unfolding fedNext
-loop-again c = 
+loop-again c =
     let l = c .before .before .before .before .before .before .before .before .before .before in
     let a = l .before .before .before .args in
     let t = a .text .now in
@@ -70,17 +58,14 @@ loop-again c =
       rw ke (events-long _ _ _ ∙ l .loop .inv .3),
     )
 
--- src/lib.rt:70:1
 same-length : tie.Need-same-length Inv-loop μ-loop
 same-length c = search tests
 
--- src/lib.rt:70:1
 same-length-2 : tie.Need-same-length-2 Inv-loop μ-loop
 same-length-2 c = search tests
 
--- src/lib.rt:70:1
 returns : tie.Need-returns Inv-loop μ-loop
-returns c = 
+returns c =
     let l = c .before .loop in
     sym (fold-end (fedAt (l .last) (l .kinds) (l .events)) (c .before .before .before .before .args .text .now) (l .i) (omega arith)) ∙ l .inv .1
 

@@ -1,58 +1,43 @@
-use Rattle.importing.proofs.Counts.{posts-few}
-use borrow.Author.Tests.{eq-eqb, ne-eqb}
-use native.Mathlib.Omega.{arith}
+-- `stands::after_kind` meets its contract, by the test of the marks; a post that stands is one of 32.
+-- Assumes nothing.
 use mathlib.Core.Path.{sym, _∙_}
+use native.Mathlib.Omega.{arith}
+use borrow.Author.Tests.{eq-eqb, ne-eqb}
 use Rattle.relay.proofs.Tests.{tests}
-use borrow.Author.Needs.{needs}
 use Rattle.importing.specs.Steps.{afterKind}
+use Rattle.importing.proofs.Counts.{posts-few}
 use Rattle.importing.proofs.stands.after_kind.Statement.{statement}
 use Rattle.importing.proofs.stands.after_kind.Tie as tie
-use Rattle.importing.proofs.stands.after_kind.Reads as reads
-use Rattle.importing.proofs.stands.after_kind.Lts as lts
-use Rattle.importing.proofs.stands.go_on.Reads as go-on-reads
-use Rattle.importing.proofs.stands.kind_stands.Reads as kind-stands-reads
-use Rattle.importing.proofs.stands.number_of.Reads as number-of-reads
-use Rattle.importing.proofs.stands.stop.Reads as stop-reads
 
--- src/stands.rt:131:8
 kind-stands-requires : tie.Need-kind-stands-requires
 kind-stands-requires c κs = search tests
 
--- src/stands.rt:132:12
 number-of-requires : tie.Need-number-of-requires
 number-of-requires c κs = search tests
 
--- src/stands.rt:133:55
 add-go-on : tie.Need-add-go-on
 add-go-on c = let s = c .before .before .before .before .before .before .args .s in omega (arith, posts-few (s .posts) (s .marks) (sym (c .before .before .before .before .kind-stands .ensures) ∙ c .before .before .before .if1 .taken))
 
--- src/stands.rt:133:13
 go-on-requires : tie.Need-go-on-requires
 go-on-requires c κs = search tests
 
--- src/stands.rt:133:13
 returns : tie.Need-returns
 unfolding afterKind
 returns c = c .go-on .ensures ∙ rw (sym (c .before .before .before .before .before .kind-stands .ensures) ∙ c .before .before .before .before .if1 .taken, eq-eqb _ _ (sym (c .before .before .before .number-of .ensures) ∙ c .before .before .if2 .taken))
 
--- src/stands.rt:135:50
 add-go-on-2 : tie.Need-add-go-on-2
 add-go-on-2 c = let s = c .before .before .before .before .before .before .args .s in omega (arith, posts-few (s .posts) (s .marks) (sym (c .before .before .before .before .kind-stands .ensures) ∙ c .before .before .before .if1 .taken))
 
--- src/stands.rt:135:9
 go-on-requires-2 : tie.Need-go-on-requires-2
 go-on-requires-2 c κs = search tests
 
--- src/stands.rt:135:9
 returns-2 : tie.Need-returns-2
 unfolding afterKind
 returns-2 c = c .go-on2 .ensures ∙ rw (sym (c .before .before .before .before .before .kind-stands .ensures) ∙ c .before .before .before .before .if1 .taken, ← c .before .before .before .number-of .ensures, ne-eqb (c .before .before .before .number-of .result) 1 (c .before .before .if2 .left))
 
--- src/stands.rt:137:5
 stop-requires : tie.Need-stop-requires
 stop-requires c κs = search tests
 
--- src/stands.rt:127:1
 returns-3 : tie.Need-returns-3
 unfolding afterKind
 returns-3 c = c .stop .ensures ∙ rw (sym (c .before .before .kind-stands .ensures) ∙ c .before .if1 .left)

@@ -1,75 +1,55 @@
-use borrow.Author.Tests.{eq-eqb}
+-- `stands::end_record` meets its contract, by the place and then by the stage.
+-- Assumes nothing.
 use mathlib.Core.Path.{_∙_}
+use borrow.Author.Tests.{eq-eqb}
 use Rattle.relay.proofs.Tests.{tests}
-use borrow.Author.Needs.{needs}
 use Rattle.importing.specs.Steps.{recordEnded}
 use Rattle.importing.proofs.stands.end_record.Statement.{statement}
 use Rattle.importing.proofs.stands.end_record.Tie as tie
-use Rattle.importing.proofs.stands.end_record.Reads as reads
-use Rattle.importing.proofs.stands.end_record.Lts as lts
-use Rattle.importing.proofs.stands.after_event.Reads as after-event-reads
-use Rattle.importing.proofs.stands.after_header.Reads as after-header-reads
-use Rattle.importing.proofs.stands.after_kind.Reads as after-kind-reads
-use Rattle.importing.proofs.stands.after_start.Reads as after-start-reads
-use Rattle.importing.proofs.stands.stop.Reads as stop-reads
 
--- src/stands.rt:155:9
 stop-requires : tie.Need-stop-requires
 stop-requires c κs = search tests
 
--- src/stands.rt:155:9
 returns : tie.Need-returns
 unfolding recordEnded
 returns c = search tests
 
--- src/stands.rt:159:28
 enum-told : tie.Need-enum-told
 enum-told c = search tests
 
--- src/stands.rt:159:28
 after-header-requires : tie.Need-after-header-requires
 after-header-requires c κs = search tests
 
--- src/stands.rt:160:27
 enum-told-2 : tie.Need-enum-told-2
 enum-told-2 c = search tests
 
--- src/stands.rt:160:27
 after-start-requires : tie.Need-after-start-requires
 after-start-requires c κs = search tests
 
--- src/stands.rt:161:27
 enum-told-3 : tie.Need-enum-told-3
 enum-told-3 c = search tests
 
--- src/stands.rt:161:27
 after-kind-requires : tie.Need-after-kind-requires
 after-kind-requires c κs = search tests
 
--- src/stands.rt:162:28
 enum-told-4 : tie.Need-enum-told-4
 enum-told-4 c = search tests
 
--- src/stands.rt:162:28
 after-event-requires : tie.Need-after-event-requires
 after-event-requires c κs = search tests
 
--- src/stands.rt:151:1
 returns-2 : tie.Need-returns-2
 unfolding recordEnded
 returns-2 c = c .after-header .ensures ∙ rw (eq-eqb (c .before .before .before .before .before .args .s .place) 5 (c .before .before .before .if1 .left), c .before .enum-told .given .1)
 
--- src/stands.rt:151:1
 returns-3 : tie.Need-returns-3
 unfolding recordEnded
 returns-3 c = c .after-start .ensures ∙ rw (eq-eqb (c .before .before .before .before .before .args .s .place) 5 (c .before .before .before .if1 .left), c .before .enum-told2 .given .1)
 
--- src/stands.rt:151:1
 returns-4 : tie.Need-returns-4
 unfolding recordEnded
 returns-4 c = c .after-kind .ensures ∙ rw (eq-eqb (c .before .before .before .before .before .args .s .place) 5 (c .before .before .before .if1 .left), c .before .enum-told3 .given .1)
 
--- src/stands.rt:151:1
 returns-5 : tie.Need-returns-5
 unfolding recordEnded
 returns-5 c = c .after-event .ensures ∙ rw (eq-eqb (c .before .before .before .before .before .args .s .place) 5 (c .before .before .before .if1 .left), c .before .enum-told4 .given .1)

@@ -1,12 +1,10 @@
-
+-- `stands::is_below` meets its contract: it makes the definition's tests.
+-- Assumes nothing.
 use mathlib.Core.Path.{refl}
 use Rattle.importing.specs.Steps.{isBelow}
 use Rattle.importing.proofs.stands.is_below.Statement.{statement}
 use Rattle.importing.proofs.stands.is_below.Tie as tie
-use Rattle.importing.proofs.stands.is_below.Reads as reads
-use Rattle.importing.proofs.stands.is_below.Lts as lts
 
--- src/stands.rt:32:1
 returns : tie.Need-returns
 unfolding isBelow
 returns c = refl

@@ -1,114 +1,83 @@
+-- `steps::step` meets its contract, by what the byte does.
+-- Assumes nothing.
 use mathlib.Core.Path.{_∙_}
 use Rattle.relay.proofs.Tests.{tests}
-use borrow.Author.Needs.{needs}
 use Rattle.importing.specs.Steps.{stateNext}
 use Rattle.importing.proofs.steps.step.Statement.{statement}
 use Rattle.importing.proofs.steps.step.Tie as tie
-use Rattle.importing.proofs.steps.step.Reads as reads
-use Rattle.importing.proofs.steps.step.Lts as lts
-use Rattle.importing.proofs.stands.end_record.Reads as end-record-reads
-use Rattle.importing.proofs.stands.stop.Reads as stop-reads
-use Rattle.importing.proofs.steps.add.Reads as add-reads
-use Rattle.importing.proofs.steps.end_field.Reads as end-field-reads
-use Rattle.importing.proofs.steps.move_to.Reads as move-to-reads
-use Rattle.register.proofs.action_of.Reads as action-of-reads
-use Rattle.register.proofs.class_of.Reads as class-of-reads
 
--- src/steps.rt:184:41
 class-of-requires : tie.Need-class-of-requires
 class-of-requires c κs = search tests
 
--- src/steps.rt:184:9
 action-of-requires : tie.Need-action-of-requires
 action-of-requires c κs = search tests
 
--- src/steps.rt:186:33
 enum-told : tie.Need-enum-told
 enum-told c = search tests
 
--- src/steps.rt:186:22
 move-to-requires : tie.Need-move-to-requires
 move-to-requires c κs = search tests
 
--- src/steps.rt:187:21
 enum-told-2 : tie.Need-enum-told-2
 enum-told-2 c = search tests
 
--- src/steps.rt:187:21
 add-requires : tie.Need-add-requires
 add-requires c κs = search tests
 
--- src/steps.rt:188:34
 enum-told-3 : tie.Need-enum-told-3
 enum-told-3 c = search tests
 
--- src/steps.rt:188:23
 move-to-requires-2 : tie.Need-move-to-requires-2
 move-to-requires-2 c κs = search tests
 
--- src/steps.rt:189:39
 enum-told-4 : tie.Need-enum-told-4
 enum-told-4 c = search tests
 
--- src/steps.rt:189:26
 end-field-requires : tie.Need-end-field-requires
 end-field-requires c κs = search tests
 
--- src/steps.rt:190:38
 enum-told-5 : tie.Need-enum-told-5
 enum-told-5 c = search tests
 
--- src/steps.rt:190:25
 end-field-requires-2 : tie.Need-end-field-requires-2
 end-field-requires-2 c κs = search tests
 
--- src/steps.rt:191:27
 enum-told-6 : tie.Need-enum-told-6
 enum-told-6 c = search tests
 
--- src/steps.rt:191:27
 end-record-requires : tie.Need-end-record-requires
 end-record-requires c κs = search tests
 
--- src/steps.rt:192:23
 enum-told-7 : tie.Need-enum-told-7
 enum-told-7 c = search tests
 
--- src/steps.rt:192:23
 stop-requires : tie.Need-stop-requires
 stop-requires c κs = search tests
 
--- src/steps.rt:179:1
 returns : tie.Need-returns
 unfolding stateNext
 returns c = c .move-to .ensures ∙ rw (← c .before .before .before .before .class-of .ensures, ← c .before .before .before .action-of .ensures, c .before .enum-told .given .1)
 
--- src/steps.rt:179:1
 returns-2 : tie.Need-returns-2
 unfolding stateNext
 returns-2 c = c .add .ensures ∙ rw (← c .before .before .before .before .class-of .ensures, ← c .before .before .before .action-of .ensures, c .before .enum-told2 .given .1)
 
--- src/steps.rt:179:1
 returns-3 : tie.Need-returns-3
 unfolding stateNext
 returns-3 c = c .move-to2 .ensures ∙ rw (← c .before .before .before .before .class-of .ensures, ← c .before .before .before .action-of .ensures, c .before .enum-told3 .given .1)
 
--- src/steps.rt:179:1
 returns-4 : tie.Need-returns-4
 unfolding stateNext
 returns-4 c = c .end-field .ensures ∙ rw (← c .before .before .before .before .class-of .ensures, ← c .before .before .before .action-of .ensures, c .before .enum-told4 .given .1)
 
--- src/steps.rt:179:1
 returns-5 : tie.Need-returns-5
 unfolding stateNext
 returns-5 c = c .end-field2 .ensures ∙ rw (← c .before .before .before .before .class-of .ensures, ← c .before .before .before .action-of .ensures, c .before .enum-told5 .given .1)
 
--- src/steps.rt:179:1
 returns-6 : tie.Need-returns-6
 unfolding stateNext
 returns-6 c = c .end-record .ensures ∙ rw (← c .before .before .before .before .class-of .ensures, ← c .before .before .before .action-of .ensures, c .before .enum-told6 .given .1)
 
--- src/steps.rt:179:1
 returns-7 : tie.Need-returns-7
 unfolding stateNext
 returns-7 c = c .stop .ensures ∙ rw (← c .before .before .before .before .class-of .ensures, ← c .before .before .before .action-of .ensures, c .before .enum-told7 .given .1)

@@ -1,30 +1,24 @@
+-- `steps::with_letter` meets its contract: it makes the definition's tests.
+-- Assumes nothing.
 use Rattle.relay.proofs.Tests.{tests}
-use borrow.Author.Needs.{needs}
 use Rattle.importing.specs.Steps.{withLetter}
 use Rattle.importing.proofs.steps.with_letter.Statement.{statement}
 use Rattle.importing.proofs.steps.with_letter.Tie as tie
-use Rattle.importing.proofs.steps.with_letter.Reads as reads
-use Rattle.importing.proofs.steps.with_letter.Lts as lts
 
--- src/steps.rt:63:9
 returns : tie.Need-returns
 unfolding withLetter
 returns c = search tests
 
--- src/steps.rt:65:8
 shared-slice-read-if2 : tie.Need-shared-slice-read-if2
 shared-slice-read-if2 c = search tests
 
--- src/steps.rt:66:9
 returns-2 : tie.Need-returns-2
 unfolding withLetter
 returns-2 c = search tests
 
--- src/steps.rt:68:5
 add-result : tie.Need-add-result
 add-result c = search tests
 
--- src/steps.rt:58:1
 returns-3 : tie.Need-returns-3
 unfolding withLetter
 returns-3 c = search tests
