@@ -6,7 +6,7 @@ use mathlib.Core.Logic.{_⊎_, inl, inr}
 use mathlib.Core.Bool.{Bool, true, false, not, _&&_}
 use mathlib.Core.List.{List, _++_}
 use native.Mathlib.Omega.{arith}
-use borrow.Author.Tests.{eq-eqb, ne-eqb, le-leb, leb-true, lt-leb, lt-ltb, le-ltb}
+use borrow.Author.Tests.{eq-eqb, ne-eqb, le-leb, leb-true, lt-leb}
 use lib.Dec.{eqb, leb}
 use lib.ListN.{length, drop}
 use Rattle.relay.specs.Choice.{pick}
@@ -32,6 +32,7 @@ use Rattle.importing.specs.declared.steps.State.{State}
 use Rattle.importing.proofs.Ends.{counts, events-few}
 use Rattle.importing.proofs.Follows.{On, Off, Follows}
 use Rattle.importing.proofs.Kept.{fed-kinds-long, fed-events-long}
+use Rattle.importing.proofs.Outcomes.{of-wrong, of-many, of-short, of-good}
 use Rattle.importing.proofs.Runs.{whole-same, stopped-open, records-few, text-followed}
 use Rattle.importing.proofs.Settled.{not-done, too-many, refused-write, good-write}
 
@@ -64,22 +65,19 @@ module _ (text : List ℕ) (out : List ℕ) where
   refuses r e z = (sym e, rw (e, z))
 
   wrong-text : accepts text ≡ false → Answers (refused wrongRecord (named text)) out
-  unfolding importOf
-  wrong-text a = refuses (refused wrongRecord (named text)) (rw a) refl
+  wrong-text a = refuses (refused wrongRecord (named text)) (of-wrong text (length out) a) refl
 
   module _ (a : accepts text ≡ true) where
     many : mostEntries < n → Answers (refused lengthWrong 0) out
-    unfolding importOf
-    many h = refuses (refused lengthWrong 0) (rw (a, lt-ltb mostEntries n h)) refl
+    many h = refuses (refused lengthWrong 0) (of-many text (length out) a h) refl
 
     module _ (h : n ≤ mostEntries) where
       short : length out < bytesFor n → Answers (refused roomShort 0) out
-      unfolding importOf
-      short k = refuses (refused roomShort 0) (rw (a, le-ltb mostEntries n h, lt-ltb (length out) (bytesFor n) k)) refl
+      short k = refuses (refused roomShort 0) (of-short text (length out) a h k) refl
 
       good : bytesFor n ≤ length out → Answers (imported (bytesFor n)) (encode t ++ drop (bytesFor n) out)
-      unfolding importOf importInto
-      good k = let e : importOf text (length out) ≡ imported (bytesFor n) = rw (a, le-ltb mostEntries n h, le-ltb (length out) (bytesFor n) k) in (sym e, rw e)
+      unfolding importInto
+      good k = let e = of-good text (length out) a h k in (sym e, rw e)
 
 -- ---- and what settling does
 module _ (text : List ℕ) (f : Fed) (out : List ℕ) (kinds : length (f .kinds) ≡ 32) (events : length (f .events) ≡ mostEntries) where

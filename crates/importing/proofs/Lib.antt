@@ -8,4 +8,6 @@ pub mod Follows
 pub mod Ends
 pub mod Runs
 pub mod Settled
+pub mod Outcomes
 pub mod Answers
+pub mod Calls
