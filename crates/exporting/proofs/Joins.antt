@@ -1,6 +1,6 @@
 -- Texts one after the other: how long they are together. Each holds by how many there are.
 -- Assumes nothing.
-use Prim.Native.Nat.{ℕ, zero, suc, _+_, _*_, _≤_, _<_}
+use Prim.Native.Nat.{ℕ, zero, suc, _+_, _-_, _*_, _≤_, _<_}
 use mathlib.Core.Path.{_≡_, refl, sym, ap, _∙_}
 use mathlib.Core.List.{List, [], _∷_, _++_, append-assoc, append-nil}
 use native.Mathlib.Numerals.{add-one}
@@ -21,12 +21,15 @@ module _ (f : ℕ → List ℕ) where
   pub joined-long : (n : ℕ) → length (joined f (n + 1)) ≡ length (joined f n) + length (f n)
   joined-long n = ap (λ (xs : List ℕ). length xs) (joined-more n) ∙ length-append (joined f n) (f n)
 
-  -- the first of them are no longer than all
-  pub joined-grows : (m n : ℕ) → length (joined f m) ≤ length (joined f (m + n))
-  joined-grows m zero = let e : m + 0 ≡ m = omega arith in rw e (omega arith)
-  joined-grows m (suc n) =
+  -- the first m of n are no longer than all
+  grows : (m n : ℕ) → length (joined f m) ≤ length (joined f (m + n))
+  grows m zero = let e : m + 0 ≡ m = omega arith in rw e (omega arith)
+  grows m (suc n) =
       let e : m + suc n ≡ m + n + 1 = omega arith in
-      rw e (omega (arith, joined-grows m n, joined-long (m + n)))
+      rw e (omega (arith, grows m n, joined-long (m + n)))
+
+  pub joined-upto : (m n : ℕ) → m ≤ n → length (joined f m) ≤ length (joined f n)
+  joined-upto m n h = let e : n ≡ m + (n - m) = omega arith in rw e (grows m (n - m))
 
   -- the first m, and then n more
   pub joined-split : (m n : ℕ) → joined f (m + n) ≡ joined f m ++ joined (λ i. f (m + i)) n

@@ -1,3 +1,4 @@
 pub mod Joins
 pub mod Marks
 pub mod Registers
+pub mod Outcomes

@@ -2,13 +2,14 @@
 -- Assumes nothing.
 use Prim.Native.Nat.{ℕ, _+_, _-_, _≤_, _<_}
 use mathlib.Core.Path.{_≡_, refl}
-use mathlib.Core.List.{[], _∷_, _++_}
+use mathlib.Core.List.{List, [], _∷_, _++_}
 use native.Mathlib.Omega.{arith}
 use borrow.Author.Tests.{ne-eqb}
 use lib.ListN.{length, length-append}
 use Rattle.digits.specs.Digits.{digits}
+use Rattle.digits.specs.Texts.{joined}
 use Rattle.exporting.specs.declared.Fields.{Fields}
-use Rattle.exporting.specs.Fields.{field, ended, textOf}
+use Rattle.exporting.specs.Fields.{headerLine, field, ended, textOf, count, textAt, registerOf}
 
 -- no field, and the digits of a number
 pub field-none : field 0 ≡ []
@@ -40,3 +41,8 @@ pub text-long : (f : Fields) → length (textOf f)
     ≡ length (field (f .position)) + length (field (f .event)) + length (field (f .post)) + length (field (f .stamp)) + length (field (f .answer)) + 6
 unfolding textOf
 text-long f = simp (length-append, ended-long) (omega arith)
+
+-- the register: the header is 34 bytes
+pub register-long : (stamp : ℕ) (ks : List ℕ) (es : List (List ℕ)) → length (registerOf stamp ks es) ≡ 34 + length (joined (textAt stamp ks es) (count ks es))
+unfolding registerOf
+register-long stamp ks es = length-append headerLine (joined (textAt stamp ks es) (count ks es))

@@ -78,16 +78,16 @@ put-field-requires : tie.Need-put-field-requires
 put-field-requires c κs = fits-one (c .before .before)
 
 put-field-requires-2 : tie.Need-put-field-requires-2
-put-field-requires-2 c κs = room _ _ _ _ _ _ (first (c .before .before .before)) (fits-two (c .before .before .before .before .before .before))
+put-field-requires-2 c κs = room _ _ _ (ended (c .before .before .before .before .before .before .args .f .event) comma) _ _ (first (c .before .before .before)) (fits-two (c .before .before .before .before .before .before))
 
 put-field-requires-3 : tie.Need-put-field-requires-3
-put-field-requires-3 c κs = room _ _ _ _ _ _ (second (c .before .before .before)) (fits-three (c .before .before .before .before .before .before .before .before .before .before))
+put-field-requires-3 c κs = room _ _ _ (ended (c .before .before .before .before .before .before .before .before .before .before .args .f .post) comma) _ _ (second (c .before .before .before)) (fits-three (c .before .before .before .before .before .before .before .before .before .before))
 
 put-field-requires-4 : tie.Need-put-field-requires-4
-put-field-requires-4 c κs = room _ _ _ _ _ _ (third (c .before .before .before)) (fits-four (c .before .before .before .before .before .before .before .before .before .before .before .before .before .before))
+put-field-requires-4 c κs = room _ _ _ (ended (c .before .before .before .before .before .before .before .before .before .before .before .before .before .before .args .f .stamp) comma) _ _ (third (c .before .before .before)) (fits-four (c .before .before .before .before .before .before .before .before .before .before .before .before .before .before))
 
 put-field-requires-5 : tie.Need-put-field-requires-5
-put-field-requires-5 c κs = room _ _ _ _ _ _ (fourth (c .before .before .before)) (fits-five (c .before .before .before .before .before .before .before .before .before .before .before .before .before .before .before .before .before .before))
+put-field-requires-5 c κs = room _ _ _ (ended (c .before .before .before .before .before .before .before .before .before .before .before .before .before .before .before .before .before .before .args .f .answer) cr) _ _ (fourth (c .before .before .before)) (fits-five (c .before .before .before .before .before .before .before .before .before .before .before .before .before .before .before .before .before .before))
 
 -- the last byte has room
 last-fits : (c : tie.After-put-field5) → c .put-field5 .result + 1 ≤ length (c .put-field5 .last .0)
