@@ -2,3 +2,5 @@ pub mod Joins
 pub mod Marks
 pub mod Registers
 pub mod Outcomes
+pub mod One
+pub mod Calls

@@ -189,11 +189,13 @@ pub fn export(s: &[u8], out: &mut [u8]) -> Exported
     }
     let n = found.posts as usize;
     let m = found.events as usize;
-    let size = size_of(found.stamp, &kinds[..n], &events[..m]);
+    let ks = &kinds[..n];
+    let es = &events[..m];
+    let size = size_of(found.stamp, ks, es);
     if out.len() < size {
         return refuse(ROOM_SHORT, 0);
     }
-    put_text(out, found.stamp, &kinds[..n], &events[..m]);
+    put_text(out, found.stamp, ks, es);
     Exported {
         number: 0,
         block: 0,

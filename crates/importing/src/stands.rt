@@ -2,12 +2,11 @@
 ghost use mathlib.Core.Path.{_≡_};
 ghost use Rattle.register.specs.Reading.{mayStand};
 ghost use Rattle.importing.specs.Steps.{numberIn, isBelow, stopped, onward, headerStands, startStands, kindStands, eventStands, afterHeader, afterStart, afterKind, afterEvent, recordEnded};
-
-use register::Mode;
-use register::Stage;
 use crate::steps;
 use crate::steps::Marks;
 use crate::steps::State;
+use register::Mode;
+use register::Stage;
 
 // A number of 32 bits lies below this one.
 const WORD: u64 = 4294967296;

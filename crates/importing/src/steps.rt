@@ -3,12 +3,11 @@ ghost use mathlib.Core.Path.{_≡_};
 ghost use Rattle.importing.specs.Steps.{begun, withLetter, word, markNext, moved, pushed, placeNext, ended, acted, stateNext};
 ghost use Rattle.register.specs.declared.Act.the-variants.{Add};
 ghost use Rattle.register.specs.Lexer.{adding};
-
+use crate::stands;
 use digits::WRONG;
 use register::Act;
 use register::Mode;
 use register::Stage;
-use crate::stands;
 
 // The marks of the last five fields, in their order: of a header's field how many letters of its word it has, of another's what `digits` says.
 pub struct Marks {

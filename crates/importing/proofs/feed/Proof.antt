@@ -55,7 +55,7 @@ loop-less c = search tests
 -- src/lib.rt:75:5
 loop-again : tie.Need-loop-again Inv-loop μ-loop
 unfolding fedNext
-loop-again c = 
+loop-again c =
     let l = c .before .before .before .before .before .before .before .before .before .before in
     let a = l .before .before .before .args in
     let t = a .text .now in
@@ -80,7 +80,7 @@ same-length-2 c = search tests
 
 -- src/lib.rt:70:1
 returns : tie.Need-returns Inv-loop μ-loop
-returns c = 
+returns c =
     let l = c .before .loop in
     sym (fold-end (fedAt (l .last) (l .kinds) (l .events)) (c .before .before .before .before .args .text .now) (l .i) (omega arith)) ∙ l .inv .1
 

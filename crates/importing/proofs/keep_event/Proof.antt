@@ -18,7 +18,7 @@ returns c = search tests
 -- src/lib.rt:63:9
 returns-2 : tie.Need-returns-2
 unfolding keptEvent
-returns-2 c = 
+returns-2 c =
     let a = c .before .before .before .args in
     rw (ne-eqb (a .known) (a .s .events) (c .before .if1 .left)) (sym (set-out (a .events .now) (a .known) _ (c .if2 .taken)))
 
@@ -41,7 +41,7 @@ same-length c = search tests
 -- src/lib.rt:55:1
 returns-3 : tie.Need-returns-3
 unfolding keptEvent
-returns-3 c = 
+returns-3 c =
     let a = c .before .before .before .before .before .args in
     rw (ne-eqb (a .known) (a .s .events) (c .before .before .before .if1 .left), c .entry-of .ensures)
 

@@ -18,7 +18,7 @@ returns c = search tests
 -- src/lib.rt:48:9
 returns-2 : tie.Need-returns-2
 unfolding keptKind
-returns-2 c = 
+returns-2 c =
     let a = c .before .before .before .before .args in
     rw (ne-eqb (a .posts) (a .s .posts) (c .before .if1 .left)) (sym (set-out (a .kinds .now) (a .posts) _ (c .if2 .taken)))
 
@@ -41,7 +41,7 @@ same-length c = search tests
 -- src/lib.rt:40:1
 returns-3 : tie.Need-returns-3
 unfolding keptKind
-returns-3 c = 
+returns-3 c =
     let a = c .before .before .before .before .before .before .args in
     rw (ne-eqb (a .posts) (a .s .posts) (c .before .before .before .if1 .left), c .number-of .ensures)
 

@@ -33,7 +33,7 @@ same-length-3 c = search tests
 
 -- src/lib.rt:194:1
 returns : tie.Need-returns
-returns c = 
+returns c =
     let e = c .before .before .write-fed .ensures in
     let q = c .before .before .before .before .before .before .before .before .before .close .ensures in
     (e .0 ∙ ap (λ (f : Fed). settleOf f (length (c .before .before .before .before .before .before .before .before .before .before .before .before .before .before .args .out .now))) q, e .1 ∙ ap (λ (f : Fed). settleInto f (c .before .before .before .before .before .before .before .before .before .before .before .before .before .before .args .out .now)) q)

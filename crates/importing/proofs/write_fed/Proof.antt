@@ -34,7 +34,7 @@ refuse-requires c κs = search tests
 
 -- src/lib.rt:171:9
 returns : tie.Need-returns
-returns c = 
+returns c =
     let a = c .before .before .before .before .before .before .args in
     let f = fedAt (a .s) (a .kinds .now) (a .events .now) in
     let o = a .out .now in
@@ -47,7 +47,7 @@ refuse-requires-2 c κs = search tests
 
 -- src/lib.rt:175:9
 returns-2 : tie.Need-returns-2
-returns-2 c = 
+returns-2 c =
     let a = c .before .before .before .before .before .before .before .args in
     let f = fedAt (a .s) (a .kinds .now) (a .events .now) in
     let o = a .out .now in
@@ -64,7 +64,7 @@ refuse-requires-3 c κs = search tests
 
 -- src/lib.rt:179:9
 returns-3 : tie.Need-returns-3
-returns-3 c = 
+returns-3 c =
     let a = c .before .before .before .before .before .before .before .before .before .args in
     let f = fedAt (a .s) (a .kinds .now) (a .events .now) in
     let o = a .out .now in
@@ -93,7 +93,7 @@ same-length c = search tests
 
 -- src/lib.rt:184:9
 returns-4 : tie.Need-returns-4
-returns-4 c = 
+returns-4 c =
     let a = c .before .before .before .before .before .before .before .before .before .before .before .before .before .before .before .before .args in
     let f = fedAt (a .s) (a .kinds .now) (a .events .now) in
     let o = a .out .now in
@@ -123,7 +123,7 @@ same-length-2 c = search tests
 
 -- src/lib.rt:167:1
 returns-5 : tie.Need-returns-5
-returns-5 c = 
+returns-5 c =
     let a = c .before .before .before .before .before .before .before .before .before .before .before .before .before .before .before .args in
     let f = fedAt (a .s) (a .kinds .now) (a .events .now) in
     let o = a .out .now in

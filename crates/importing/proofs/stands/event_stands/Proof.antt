@@ -38,7 +38,7 @@ is-below-requires-4 c κs = search tests
 -- src/stands.rt:71:1
 returns-2 : tie.Need-returns-2
 unfolding eventStands
-returns-2 c = 
+returns-2 c =
     let a = c .before .before .before .before .before .before .args in
     rw (lt-ltb (a .events) mostCounted (omega arith), c .before .before .before .is-below .ensures, c .before .before .is-below2 .ensures, c .before .is-below3 .ensures, c .is-below4 .ensures)
 

@@ -1,4 +1,3 @@
-
 use mathlib.Core.Path.{refl}
 use Rattle.importing.specs.Steps.{headerStands}
 use Rattle.importing.proofs.stands.header_stands.Statement.{statement}

@@ -1,4 +1,3 @@
-
 use mathlib.Core.Path.{refl}
 use Rattle.importing.specs.Steps.{isBelow}
 use Rattle.importing.proofs.stands.is_below.Statement.{statement}

@@ -35,7 +35,7 @@ add-result c = search tests
 -- src/stands.rt:61:1
 returns-2 : tie.Need-returns-2
 unfolding kindStands
-returns-2 c = 
+returns-2 c =
     let a = c .before .before .before .before .before .before .before .before .args in
     rw (lt-ltb (a .posts) 32 (omega arith), c .before .before .before .before .before .before .is-below .ensures, c .before .before .before .before .may-stand .ensures, c .before .before .before .before .before .number-of .ensures)
 
