@@ -1,0 +1,126 @@
+-- A page has room for any register: an accepted sheet has at most 32 kinds and 3,780 events, and each record is short, since its numbers are.
+-- Assumes nothing.
+use Prim.Native.Nat.{ℕ, zero, suc, _+_, _*_, _^_, _≤_, _<_}
+use mathlib.Core.Path.{_≡_, ap, _∙_}
+use mathlib.Core.Bool.{true}
+use mathlib.Core.List.{List, [], _∷_, _++_}
+use native.Mathlib.Omega.{arith}
+use borrow.Author.Tests.{eq-eqb, eqb-true, le-ltb}
+use lib.Dec.{eqb}
+use lib.ListN.{length, getD, length-append}
+use Rattle.relay.specs.Choice.{pick}
+use Rattle.relay.specs.Kinds.{between, countFits, kindFits, kindsFit, tableOk}
+use Rattle.relay.proofs.Truth.{and-facts, or-facts, pick-facts, split}
+use Rattle.digits.specs.Digits.{digits}
+use Rattle.digits.specs.Texts.{joined}
+use Rattle.digits.proofs.Value.{digits-within, digits-long}
+use Rattle.sheet.specs.Entry.{numberOf, postOf, answerOf, stampOf}
+use Rattle.sheet.specs.Reading.{verdictOf, blocksIn, decode}
+use Rattle.sheet.specs.Sheet.{Sheet, eventAt}
+use Rattle.sheet.proofs.Accepts.{accepted-good}
+use Rattle.sheet.proofs.Bytes.{Below}
+use Rattle.sheet.proofs.Rooms.{posts-few, kinds-long}
+use Rattle.sheet.proofs.TripRead.{decoded-writable}
+use Rattle.sheet.proofs.Writable.{Writable, in-fields}
+use Rattle.exporting.specs.Exporting.{textFor, done, exportOf}
+use Rattle.exporting.specs.Fields.{field, count, eventFields, textAt}
+use Rattle.exporting.proofs.Joins.{joined-none, joined-long, joined-split, joined-within}
+use Rattle.exporting.proofs.Marks.{field-none, field-some, text-long, register-long}
+use Rattle.exporting.proofs.Registers.{at-start, at-kind, at-event, exported-is}
+
+-- `PAGE` of the code: 34 + 16 + 32 * 9 + 3780 * 26
+abbrev pub page : ℕ
+page = 98618
+
+-- ---- kinds have one digit
+between-small : (k : ℕ) → between k ≡ true → k < 10
+unfolding between
+between-small k e =
+    or-facts (eqb k 2) _ (λ z. omega (arith, eqb-true k 2 z)) (λ e′. or-facts (eqb k 3) _ (λ z. omega (arith, eqb-true k 3 z)) (λ z. omega (arith, eqb-true k 4 z)) e′) e
+
+fits-small : (n i k : ℕ) → kindFits n i k ≡ true → k < 10
+unfolding kindFits
+fits-small n i k e =
+    let f = pick-facts (eqb i 0) (eqb k 0) (pick (eqb (i + 1) n) (eqb k 1) (between k)) .0 e in
+    split (eqb i 0) (λ z. omega (arith, eqb-true k 0 (f .0 z)))
+    (λ z.
+    let g = pick-facts (eqb (i + 1) n) (eqb k 1) (between k) .0 (f .1 z) in
+    split (eqb (i + 1) n) (λ y. omega (arith, eqb-true k 1 (g .0 y))) (λ y. between-small k (g .1 y)))
+
+kinds-small : (n j : ℕ) (ks : List ℕ) → kindsFit n j ks ≡ true → (i : ℕ) → getD ks i 0 < 10
+unfolding kindsFit
+kinds-small n j [] h i = omega arith
+kinds-small n j (k ∷ ks) h zero = fits-small n j k (and-facts (kindFits n j k) (kindsFit n (j + 1) ks) .0 h .0)
+kinds-small n j (k ∷ ks) h (suc i) = kinds-small n (j + 1) ks (and-facts (kindFits n j k) (kindsFit n (j + 1) ks) .0 h .1) i
+
+table-small : (ks : List ℕ) → tableOk ks ≡ true → (i : ℕ) → getD ks i 0 < 10
+unfolding tableOk
+table-small ks h = kinds-small (length ks) 0 ks (and-facts (countFits (length ks)) _ .0 h .1)
+
+-- ---- each record is short
+-- a number below 10 to the f
+some-within : (f n : ℕ) → 1 ≤ f → n < 10 ^ f → length (field (n + 1)) ≤ f
+some-within f n l h = rw (field-some n) (digits-within f n l h)
+
+none-long : length (field 0) ≡ 0
+none-long = ap (λ (t : List ℕ). length t) field-none
+
+module _ (t : Sheet) (w : Writable t) (few : length (t .kinds) ≤ 32) where
+  abbrev n : ℕ
+  n = length (t .kinds)
+
+  abbrev text : ℕ → List ℕ
+  text = textAt (t .stamp) (t .kinds) (t .events)
+
+  start-short : length (text 0) ≤ 16
+  start-short =
+      rw (at-start (t .stamp) (t .kinds) (t .events), text-long)
+      (omega (arith, none-long, some-within 10 (t .stamp) (omega arith) (omega (arith, w .stamp))))
+
+  kind-short : (j : ℕ) → j < n → length (text (1 + j)) ≤ 9
+  kind-short j h =
+      let e : 1 + j ≡ j + 1 = omega arith in
+      rw (e, at-kind (t .stamp) (t .kinds) (t .events) j h, text-long)
+      (omega (arith, none-long, some-within 1 (getD (t .kinds) j 0) (omega arith) (omega (arith, table-small (t .kinds) (w .table) j)), some-within 2 j (omega arith) (omega arith)))
+
+  event-short : (k : ℕ) → k < length (t .events) → length (text (1 + n + k)) ≤ 26
+  unfolding eventFields
+  event-short k h =
+      let e : 1 + n + k ≡ n + k + 1 = omega arith in
+      let v = eventAt t k in
+      let i = in-fields t w k h in
+      let p : k + 2 ≡ 1 + k + 1 = omega arith in
+      rw (e, at-event (t .stamp) (t .kinds) (t .events) k, text-long, p)
+      (omega (
+        arith,
+        some-within 4 (1 + k) (omega arith) (omega (arith, w .most)),
+        some-within 2 (numberOf v) (omega arith) (omega (arith, i .number)),
+        some-within 2 (postOf v) (omega arith) (omega (arith, i .post)),
+        some-within 10 (stampOf v) (omega arith) (omega (arith, w .stamps k h)),
+        some-within 2 (answerOf v) (omega arith) (omega (arith, i .answer)),
+      ))
+
+  -- all of them
+  register-short : length (joined text (count (t .kinds) (t .events))) + 34 ≤ page
+  register-short =
+      let m = length (t .events) in
+      let start : length (joined text 1) ≤ 16 = omega (arith, joined-long text 0, ap (λ (x : List ℕ). length x) (joined-none text), start-short) in
+      let kinds = joined-within (λ j. text (1 + j)) 9 n kind-short in
+      let events = joined-within (λ k. text (1 + n + k)) 26 m event-short in
+      let a : length (joined text (1 + n)) ≡ length (joined text 1) + length (joined (λ j. text (1 + j)) n) = ap (λ (x : List ℕ). length x) (joined-split text 1 n) ∙ length-append (joined text 1) _ in
+      let b : length (joined text (1 + n + m)) ≡ length (joined text (1 + n)) + length (joined (λ k. text (1 + n + k)) m) = ap (λ (x : List ℕ). length x) (joined-split text (1 + n) m) ∙ length-append (joined text (1 + n)) _ in
+      omega (arith, w .most)
+
+-- ---- the register of an accepted sheet
+module _ (s : List ℕ) (small : Below 256 s) (z : verdictOf s .number ≡ 0) where
+  -- it is no longer than a page
+  pub page-fits : length (textFor s) ≤ page
+  page-fits =
+      let t = decode s in
+      let w = decoded-writable (blocksIn (length s)) s (accepted-good s z) small in
+      omega (arith, ap (λ (x : List ℕ). length x) (exported-is t), register-long (t .stamp) (t .kinds) (t .events), register-short t w (omega (arith, kinds-long s, posts-few s z)))
+
+  -- so a page is never too short
+  pub page-enough : (m : ℕ) → page ≤ m → exportOf s m ≡ done (length (textFor s))
+  unfolding exportOf
+  page-enough m h = rw (eq-eqb (verdictOf s .number) 0 z, le-ltb m (length (textFor s)) (omega (arith, page-fits)))
