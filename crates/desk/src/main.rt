@@ -99,6 +99,22 @@ fn say_since(position: u32) {
     stream::print(&line[..m]);
 }
 
+// Prints the register of the sheet as comma-separated text. A refusal is told on standard error, so that none ends up inside a register.
+fn export_sheet() {
+    let mut s = [0u8; ROOM];
+    let mut page = [0u8; exporting::PAGE];
+    let Reading::Whole(n) = read_input(&mut s) else {
+        return;
+    };
+    let done = exporting::export(&s[..n], &mut page);
+    if done.number != 0 {
+        tell_refused(done.number, done.block as u64);
+        return;
+    }
+    let m = done.bytes;
+    stream::print(&page[..m]);
+}
+
 // Prints the sheet that the register's text on standard input says: read in pieces, to its end, however long it is. A refusal is told on standard error.
 fn import_text() {
     let mut kinds = [0u32; 32];
@@ -163,7 +179,7 @@ fn main() {
         Job::List => list_sheet(),
         Job::Work => work_sheet(),
         Job::Why(position) => say_since(position),
-        Job::Export => tell_usage(),
+        Job::Export => export_sheet(),
         Job::Import => import_text(),
         Job::Unknown => tell_usage(),
     }

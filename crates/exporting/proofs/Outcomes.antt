@@ -2,14 +2,14 @@
 -- Assumes nothing.
 use Prim.Native.Nat.{ℕ, _+_, _≤_, _<_}
 use mathlib.Core.Path.{_≡_, refl, sym, ap, _∙_}
-use mathlib.Core.Bool.{Bool, true, false}
+use mathlib.Core.Bool.{Bool, true, false, not}
 use mathlib.Core.List.{List, [], _++_}
 use native.Mathlib.Omega.{arith}
-use borrow.Author.Tests.{eq-eqb, ne-eqb, le-leb, lt-ltb, le-ltb, eqb-true, eqb-false}
-use lib.Dec.{eqb}
+use borrow.Author.Tests.{eq-eqb, ne-eqb, le-leb, lt-ltb, le-ltb, ltb-false, eqb-true, eqb-false}
+use lib.Dec.{eqb, ltb}
 use lib.ListN.{length, take, drop, length-append}
 use lib.Seq.{take-at}
-use Rattle.relay.proofs.Truth.{split}
+use Rattle.relay.proofs.Truth.{by, split}
 use Rattle.digits.specs.Texts.{stored}
 use Rattle.sheet.specs.Check.{word}
 use Rattle.sheet.specs.Layout.{roomShort}
@@ -18,6 +18,7 @@ use Rattle.sheet.specs.declared.Found.{Found}
 use Rattle.sheet.proofs.Rooms.{posts-few, entries-few, kinds-long, events-long}
 use Rattle.exporting.specs.Exporting as spec
 use Rattle.exporting.specs.Exporting.{done, textFor, exportOf, exportInto, Exports}
+use Rattle.exporting.specs.declared.Exported.{Exported}
 
 -- ---- reading with room for any sheet
 module _ (s : List ℕ) where
@@ -72,3 +73,10 @@ module _ (s out : List ℕ) where
         let a = eq-eqb (verdictOf s .number) 0 z in
         let b = le-ltb (length out) (length (textFor s)) h in
         (rw (a, b), rw (a, b) (stored-front out (textFor s)))
+
+-- no more is written than there is room for
+pub export-within : (s : List ℕ) (r : Exported) (out out′ : List ℕ) → Exports s r out out′ → r .bytes ≤ length out
+unfolding exportOf
+export-within s r out out′ x =
+    rw (x .0) (by (λ (y : Exported). y .bytes ≤ length out) (not (accepted s)) (λ e. omega arith)
+    (λ e. by (λ (y : Exported). y .bytes ≤ length out) (ltb (length out) (length (textFor s))) (λ h. omega arith) (λ h. ltb-false (length out) (length (textFor s)) h)))

@@ -1,11 +1,13 @@
 // The calls on a sheet for a panel written in C or Rust, beside those of `lent` on the row: `include/desk.h` declares them.
 // Each is the call below it, under that call's own contract.
 ghost use mathlib.Core.Path.{_≡_};
+ghost use Rattle.exporting.specs.Exporting.{Exports};
 ghost use Rattle.importing.specs.Importing.{Imports};
 ghost use Rattle.sheet.specs.Reading.{Reads, verdictOf};
 ghost use Rattle.sheet.specs.Writing.{Writes};
 ghost use Rattle.why.specs.Why.{sinceOf};
 ghost use Rattle.working.specs.Working.{Works};
+use exporting::Exported;
 use importing::Imported;
 use sheet::Found;
 use sheet::Verdict;
@@ -50,6 +52,14 @@ pub extern "C" fn desk_why(s: &[u8], position: u32) -> Since
     ensures { λ r. ⌜ r ≡ sinceOf (now (s .entry)) position ⌝ }
 {
     why::since_when(s, position)
+}
+
+// Exports a sheet's register as comma-separated text.
+#[no_mangle]
+pub extern "C" fn desk_export(s: &[u8], out: &mut [u8]) -> Exported
+    ensures { λ r. ⌜ Exports (now (s .entry)) r (now (out .entry)) (now (out .exit)) ⌝ }
+{
+    exporting::export(s, out)
 }
 
 // Brings a register's text back to a sheet.
