@@ -9,3 +9,4 @@ pub mod Prefixes
 pub mod More
 pub mod Import
 pub mod Sheets
+pub mod Examples

@@ -3,3 +3,4 @@ pub mod Lexer
 pub mod Records
 pub mod Reading
 pub mod Register
+pub mod Examples
