@@ -320,3 +320,45 @@ named-one text j k a b =
 pub accepted-exported : (text : List ℕ) (e : accepts text ≡ true) → exported (sheetIn text) ≡ lines (bareAll (saidAll (accepted-right text e .1 .rows)))
 unfolding exported
 accepted-exported text e = ap (λ (rs : List Rec). lines (bareAll rs)) (sym (accepted-right text e .1 .says))
+
+-- ---- what a right text begins with
+-- the first j records of the text, as they stand there, begin a right text of a right sheet
+pub record Begins (j : ℕ) (text : List ℕ) : Type 0 where
+  pub rows : List Row
+  pub many : length rows ≡ j
+  pub rest : List ℕ
+  pub here : text ++ lineEnd ≡ lines rows ++ rest
+  pub sheet : Sheet
+  pub right : Right sheet
+  pub other : List ℕ
+  pub is-right : RightText sheet other
+  pub more : List ℕ
+  pub there : other ≡ lines rows ++ more
+
+pub stand-begins : (text : List ℕ) (j : ℕ) → Stand j text → Begins j text
+stand-begins text j w =
+    let all = w .rows ++ bareAll (w .more) in
+    record {
+      rows = w .rows;
+      many = w .many;
+      rest = w .rest;
+      here = w .spells;
+      sheet = w .sheet;
+      right = w .right;
+      other = lines all;
+      is-right = record {
+        rows = all;
+        ended = true;
+        says = said-append (w .rows) (bareAll (w .more)) ∙ ap (λ (x : List Rec). saidAll (w .rows) ++ x) (said-bare (w .more)) ∙ sym (w .begins);
+        spells = append-nil (lines all);
+      };
+      more = lines (bareAll (w .more));
+      there = lines-append (w .rows) (bareAll (w .more));
+    }
+
+-- a record is missing: every record of the text stands, and there the text ends
+pub missing : (text : List ℕ) → isWhole (lexText text) ≡ true → standIn text ≡ length (recordsIn text)
+    → (rows : List Row) × (suc (length rows) ≡ named text) × (b : Bool) × (text ++ lastEnd b ≡ lines rows)
+missing text e n =
+    let o = ended-or-not text e in
+    (lexText text .rows, ap suc (sym (said-long (lexText text .rows)) ∙ sym n), o .0, o .1)
