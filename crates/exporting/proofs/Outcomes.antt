@@ -2,18 +2,18 @@
 -- Assumes nothing.
 use Prim.Native.Nat.{ℕ, _+_, _≤_, _<_}
 use mathlib.Core.Path.{_≡_, refl, sym, ap, _∙_}
-use mathlib.Core.Bool.{Bool, true, false, not}
-use mathlib.Core.List.{List, [], _++_}
+use mathlib.Core.Bool.{false, not}
+use mathlib.Core.List.{List, _++_}
 use native.Mathlib.Omega.{arith}
-use borrow.Author.Tests.{eq-eqb, ne-eqb, le-leb, lt-ltb, le-ltb, ltb-false, eqb-true, eqb-false}
-use lib.Dec.{eqb, ltb}
+use borrow.Author.Tests.{eq-eqb, le-leb, lt-ltb, le-ltb, ltb-false, eqb-true, eqb-false}
+use lib.Dec.{ltb}
 use lib.ListN.{length, take, drop, length-append}
 use lib.Seq.{take-at}
 use Rattle.relay.proofs.Truth.{by, split}
 use Rattle.digits.specs.Texts.{stored}
 use Rattle.sheet.specs.Check.{word}
 use Rattle.sheet.specs.Layout.{roomShort}
-use Rattle.sheet.specs.Reading.{accepted, verdictOf, entriesIn, decode, refused, found, roomFor, readOf, handed, Reads}
+use Rattle.sheet.specs.Reading.{accepted, verdictOf, entriesIn, decode, refused, found, roomFor, readOf, handed}
 use Rattle.sheet.specs.declared.Found.{Found}
 use Rattle.sheet.proofs.Rooms.{posts-few, entries-few, kinds-long, events-long}
 use Rattle.exporting.specs.Exporting as spec

@@ -3,7 +3,7 @@
 use Prim.Native.Nat.{ℕ, zero, suc, _+_, _*_, _^_, _≤_, _<_}
 use mathlib.Core.Path.{_≡_, ap, _∙_}
 use mathlib.Core.Bool.{true}
-use mathlib.Core.List.{List, [], _∷_, _++_}
+use mathlib.Core.List.{List, [], _∷_}
 use native.Mathlib.Omega.{arith}
 use borrow.Author.Tests.{eq-eqb, eqb-true, le-ltb}
 use lib.Dec.{eqb}
@@ -11,9 +11,8 @@ use lib.ListN.{length, getD, length-append}
 use Rattle.relay.specs.Choice.{pick}
 use Rattle.relay.specs.Kinds.{between, countFits, kindFits, kindsFit, tableOk}
 use Rattle.relay.proofs.Truth.{and-facts, or-facts, pick-facts, split}
-use Rattle.digits.specs.Digits.{digits}
 use Rattle.digits.specs.Texts.{joined}
-use Rattle.digits.proofs.Value.{digits-within, digits-long}
+use Rattle.digits.proofs.Value.{digits-within}
 use Rattle.sheet.specs.Entry.{numberOf, postOf, answerOf, stampOf}
 use Rattle.sheet.specs.Reading.{verdictOf, blocksIn, decode}
 use Rattle.sheet.specs.Sheet.{Sheet, eventAt}

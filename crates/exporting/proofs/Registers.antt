@@ -5,13 +5,12 @@ use mathlib.Core.Path.{_≡_, refl, sym, ap, _∙_}
 use mathlib.Core.List.{List, [], _∷_, _++_, append-assoc, append-nil}
 use native.Mathlib.Numerals.{add-one}
 use native.Mathlib.Omega.{arith}
-use borrow.Author.Tests.{eq-eqb, ne-eqb, lt-ltb, le-ltb}
+use borrow.Author.Tests.{ne-eqb, lt-ltb, le-ltb}
 use lib.ListN.{length, getD, take, length-append, List·getD-append}
 use lib.Seq.{take-suc, take-length, getD-append-add}
-use Rattle.relay.proofs.Truth.{equal-or-not, least-or-below}
-use Rattle.digits.specs.Digits.{digits}
+use Rattle.relay.proofs.Truth.{least-or-below}
 use Rattle.digits.specs.Texts.{joined}
-use Rattle.register.specs.Texts.{comma, cr, lf, lineEnd, line, lines, bareIn, bareAll}
+use Rattle.register.specs.Texts.{lineEnd, line, lines, bareIn, bareAll}
 use Rattle.register.specs.Records.{header, startRecord, kindRecord, eventRecord, kindRecords, eventRecords, records}
 use Rattle.register.specs.Register.{exported}
 use Rattle.sheet.specs.Sheet.{Sheet}

@@ -1,6 +1,6 @@
 -- `exporting::export` meets its contract: refused as reading refuses, or for the output; else the register of what was read is put, and it is the sheet's.
 -- Assumes nothing.
-use Prim.Native.Nat.{ℕ, _≤_, _<_}
+use Prim.Native.Nat.{ℕ, _≤_}
 use mathlib.Core.Path.{_≡_, sym, ap, _∙_}
 use mathlib.Core.List.{List}
 use native.Mathlib.Omega.{arith}

@@ -1,6 +1,6 @@
 -- `exporting::field_size` meets its contract: nothing, or the digits of the number, and one byte more.
 -- Assumes nothing.
-use Prim.Native.Nat.{_+_, _-_, _≤_}
+use Prim.Native.Nat.{_-_}
 use native.Mathlib.Omega.{arith}
 use borrow.Author.Needs.{needs}
 use Rattle.digits.proofs.Value.{digits-long-64}

@@ -1,6 +1,5 @@
 -- `exporting::fields_at` meets its contract, by its tests.
 -- Assumes nothing.
-use Prim.Native.Nat.{_+_, _-_, _<_, _≤_}
 use borrow.Author.Needs.{needs}
 use borrow.Author.Tests.{eq-eqb, ne-eqb, lt-ltb, le-ltb}
 use Rattle.exporting.specs.Fields.{eventFields, fieldsAt}

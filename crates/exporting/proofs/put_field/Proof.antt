@@ -2,12 +2,11 @@
 -- Assumes nothing.
 use Prim.Native.Nat.{ℕ, _+_, _-_, _≤_}
 use mathlib.Core.Path.{_≡_, refl, ap, _∙_}
-use mathlib.Core.List.{List, [], _∷_, _++_}
+use mathlib.Core.List.{List, [], _∷_}
 use native.Mathlib.Omega.{arith}
 use borrow.Author.Needs.{needs}
 use lib.ListN.{length, length-append}
 use Rattle.digits.specs.Digits.{digits}
-use Rattle.digits.specs.Texts.{Put}
 use Rattle.digits.proofs.Stores.{put-one, put-byte, put-length}
 use Rattle.exporting.specs.Fields.{ended}
 use Rattle.exporting.proofs.Marks.{ended-none, ended-digits}

@@ -1,7 +1,6 @@
 -- `exporting::put_record` meets its contract: each field with its byte right after what stands, and the last byte of the line end.
 -- Assumes nothing.
 use Prim.Native.Nat.{ℕ, _+_, _≤_}
-use mathlib.Core.Path.{_≡_}
 use mathlib.Core.List.{List, _++_}
 use native.Mathlib.Omega.{arith}
 use borrow.Author.Needs.{needs}

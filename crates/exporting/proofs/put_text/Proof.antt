@@ -1,13 +1,12 @@
 -- `exporting::put_text` meets its contract: the header, and after it the records so far.
 -- Assumes nothing.
-use Prim.Native.Nat.{ℕ, _+_, _-_, _≤_}
-use mathlib.Core.Path.{_≡_, refl, ap, sym, _∙_}
-use mathlib.Core.List.{List, _++_}
+use Prim.Native.Nat.{_+_, _-_, _≤_}
+use mathlib.Core.Path.{_≡_, refl, ap, sym}
 use native.Mathlib.Omega.{arith}
 use borrow.Author.Needs.{needs}
 use lib.ListN.{length}
 use Rattle.digits.specs.Texts.{joined, Put}
-use Rattle.digits.proofs.Stores.{stored-none, put-then, put-length}
+use Rattle.digits.proofs.Stores.{stored-none, put-then}
 use Rattle.exporting.specs.declared.Fields.{Fields}
 use Rattle.exporting.specs.Fields.{headerLine, textOf, count, textAt, registerOf}
 use Rattle.exporting.proofs.Joins.{joined-none, joined-more, joined-long, joined-upto}

@@ -1,14 +1,13 @@
 -- `exporting::size_of` meets its contract: the header, and the records so far.
 -- Assumes nothing.
-use Prim.Native.Nat.{ℕ, _+_, _-_, _*_, _≤_}
-use mathlib.Core.Path.{_≡_, refl, ap, _∙_}
-use mathlib.Core.List.{List}
+use Prim.Native.Nat.{_+_, _-_, _*_, _≤_}
+use mathlib.Core.Path.{_≡_, refl, ap}
 use native.Mathlib.Omega.{arith}
 use borrow.Author.Needs.{needs}
 use lib.ListN.{length, length-append}
 use Rattle.digits.specs.Texts.{joined}
 use Rattle.exporting.specs.declared.Fields.{Fields}
-use Rattle.exporting.specs.Fields.{headerLine, textOf, count, fieldsAt, textAt, registerOf}
+use Rattle.exporting.specs.Fields.{textOf, count, textAt, registerOf}
 use Rattle.exporting.proofs.Joins.{joined-none, joined-long}
 use Rattle.exporting.proofs.size_of.Statement.{statement}
 use Rattle.exporting.proofs.size_of.Tie as tie
