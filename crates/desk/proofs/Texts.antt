@@ -11,7 +11,7 @@ use Rattle.relay.proofs.Truth.{equal-or-not}
 use Rattle.sheet.proofs.Rooms.{events-long, entries-few}
 use Rattle.sheet.specs.Reading.{verdictOf, decode, found, handed, readOf}
 use Rattle.sheet.specs.declared.Found.{Found}
-use Rattle.working.proofs.Works.{front, bad, good}
+use Rattle.sheet.proofs.AnyRoom.{front, bad, good}
 use Rattle.listing.proofs.Spaces.{spaced-none}
 use Rattle.digits.proofs.Value.{digits-one, no-leading-zero}
 use Rattle.digits.specs.Digits.{digits}

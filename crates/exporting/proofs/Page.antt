@@ -1,16 +1,11 @@
 -- A page has room for any register: an accepted sheet has at most 32 kinds and 3,780 events, and each record is short, since its numbers are.
 -- Assumes nothing.
-use Prim.Native.Nat.{ℕ, zero, suc, _+_, _*_, _^_, _≤_, _<_}
+use Prim.Native.Nat.{ℕ, _+_, _*_, _^_, _≤_, _<_}
 use mathlib.Core.Path.{_≡_, ap, _∙_}
-use mathlib.Core.Bool.{true}
-use mathlib.Core.List.{List, [], _∷_}
+use mathlib.Core.List.{List}
 use native.Mathlib.Omega.{arith}
-use borrow.Author.Tests.{eq-eqb, eqb-true, le-ltb}
-use lib.Dec.{eqb}
+use borrow.Author.Tests.{eq-eqb, le-ltb}
 use lib.ListN.{length, getD, length-append}
-use Rattle.relay.specs.Choice.{pick}
-use Rattle.relay.specs.Kinds.{between, countFits, kindFits, kindsFit, tableOk}
-use Rattle.relay.proofs.Truth.{and-facts, or-facts, pick-facts, split}
 use Rattle.digits.specs.Texts.{joined}
 use Rattle.digits.proofs.Value.{digits-within}
 use Rattle.sheet.specs.Entry.{numberOf, postOf, answerOf, stampOf}
@@ -21,6 +16,7 @@ use Rattle.sheet.proofs.Bytes.{Below}
 use Rattle.sheet.proofs.Rooms.{posts-few, kinds-long}
 use Rattle.sheet.proofs.TripRead.{decoded-writable}
 use Rattle.sheet.proofs.Writable.{Writable, in-fields}
+use Rattle.register.proofs.Sheets.{table-small}
 use Rattle.exporting.specs.Exporting.{textFor, done, exportOf}
 use Rattle.exporting.specs.Fields.{field, count, eventFields, textAt}
 use Rattle.exporting.proofs.Joins.{joined-none, joined-long, joined-split, joined-within}
@@ -30,31 +26,6 @@ use Rattle.exporting.proofs.Registers.{at-start, at-kind, at-event, exp
 -- `PAGE` of the code: 34 + 16 + 32 * 9 + 3780 * 26
 abbrev pub page : ℕ
 page = 98618
-
--- ---- kinds have one digit
-between-small : (k : ℕ) → between k ≡ true → k < 10
-unfolding between
-between-small k e =
-    or-facts (eqb k 2) _ (λ z. omega (arith, eqb-true k 2 z)) (λ e′. or-facts (eqb k 3) _ (λ z. omega (arith, eqb-true k 3 z)) (λ z. omega (arith, eqb-true k 4 z)) e′) e
-
-fits-small : (n i k : ℕ) → kindFits n i k ≡ true → k < 10
-unfolding kindFits
-fits-small n i k e =
-    let f = pick-facts (eqb i 0) (eqb k 0) (pick (eqb (i + 1) n) (eqb k 1) (between k)) .0 e in
-    split (eqb i 0) (λ z. omega (arith, eqb-true k 0 (f .0 z)))
-    (λ z.
-    let g = pick-facts (eqb (i + 1) n) (eqb k 1) (between k) .0 (f .1 z) in
-    split (eqb (i + 1) n) (λ y. omega (arith, eqb-true k 1 (g .0 y))) (λ y. between-small k (g .1 y)))
-
-kinds-small : (n j : ℕ) (ks : List ℕ) → kindsFit n j ks ≡ true → (i : ℕ) → getD ks i 0 < 10
-unfolding kindsFit
-kinds-small n j [] h i = omega arith
-kinds-small n j (k ∷ ks) h zero = fits-small n j k (and-facts (kindFits n j k) (kindsFit n (j + 1) ks) .0 h .0)
-kinds-small n j (k ∷ ks) h (suc i) = kinds-small n (j + 1) ks (and-facts (kindFits n j k) (kindsFit n (j + 1) ks) .0 h .1) i
-
-table-small : (ks : List ℕ) → tableOk ks ≡ true → (i : ℕ) → getD ks i 0 < 10
-unfolding tableOk
-table-small ks h = kinds-small (length ks) 0 ks (and-facts (countFits (length ks)) _ .0 h .1)
 
 -- ---- each record is short
 -- a number below 10 to the f

@@ -14,6 +14,7 @@ use Rattle.register.specs.Texts.{lineEnd, line, lines, bareIn, bareAll}
 use Rattle.register.specs.Records.{header, startRecord, kindRecord, eventRecord, kindRecords, eventRecords, records}
 use Rattle.register.specs.Register.{exported}
 use Rattle.sheet.specs.Sheet.{Sheet}
+use Rattle.register.proofs.More.{kinds-many, events-many}
 use Rattle.exporting.specs.Fields.{headerLine, field, ended, fields, textOf, count, eventFields, fieldsAt, textAt, registerOf}
 use Rattle.exporting.proofs.Marks.{field-none, field-some}
 
@@ -56,16 +57,6 @@ five : (f : List (List ℕ)) (a b c d e : ℕ) → f ≡ field a ∷ field b ∷
 unfolding recordText bareIn line textOf ended
 five f a b c d e h = rw h (simp append-assoc)
 
-pub kinds-count : (i : ℕ) (ks : List ℕ) → length (kindRecords i ks) ≡ length ks
-unfolding kindRecords
-kinds-count i [] = refl
-kinds-count i (k ∷ ks) = ap suc (kinds-count (suc i) ks)
-
-pub events-count : (i : ℕ) (es : List (List ℕ)) → length (eventRecords i es) ≡ length es
-unfolding eventRecords
-events-count i [] = refl
-events-count i (e ∷ es) = ap suc (events-count (suc i) es)
-
 kind-at : (i : ℕ) (ks : List ℕ) (j : ℕ) → j < length ks → getD (kindRecords i ks) j [] ≡ kindRecord (i + j) (getD ks j 0)
 unfolding kindRecords
 kind-at i [] j h = absurd (omega arith)
@@ -100,7 +91,7 @@ module _ (stamp : ℕ) (ks : List ℕ) (es : List (List ℕ)) where
   rest = startRecord stamp ∷ (kindRecords 0 ks ++ eventRecords 1 es)
 
   rest-count : length rest ≡ count ks es
-  rest-count = rw (length-append, kinds-count, events-count) (omega arith)
+  rest-count = rw (length-append, kinds-many, events-many) (omega arith)
 
   start-text : recordText (startRecord stamp) ≡ textAt stamp ks es 0
   unfolding startRecord
@@ -110,7 +101,7 @@ module _ (stamp : ℕ) (ks : List ℕ) (es : List (List ℕ)) where
   unfolding kindRecord
   kind-text j h =
       let z : 0 + j ≡ j = omega arith in
-      rw (at-kind j h, add-one j, List·getD-append (kindRecords 0 ks) (eventRecords 1 es) [] j (omega (arith, kinds-count 0 ks)), kind-at 0 ks j h, z, ← add-one j)
+      rw (at-kind j h, add-one j, List·getD-append (kindRecords 0 ks) (eventRecords 1 es) [] j (omega (arith, kinds-many 0 ks)), kind-at 0 ks j h, z, ← add-one j)
       (five _ 0 (getD ks j 0 + 1) (j + 1) 0 0 (rw (field-none, field-some, field-some)))
 
   event-text : (k : ℕ) → k < length es → recordText (getD rest (length ks + k + 1) []) ≡ textAt stamp ks es (length ks + k + 1)
@@ -118,7 +109,7 @@ module _ (stamp : ℕ) (ks : List ℕ) (es : List (List ℕ)) where
   event-text k h =
       let e : k + 2 ≡ 1 + k + 1 = omega arith in
       let s : getD rest (length ks + k + 1) [] ≡ eventRecord (1 + k) (getD es k []) =
-      rw (add-one, ← kinds-count 0 ks) (getD-append-add (kindRecords 0 ks) (eventRecords 1 es) k [] ∙ event-at 1 es k h) in
+      rw (add-one, ← kinds-many 0 ks) (getD-append-add (kindRecords 0 ks) (eventRecords 1 es) k [] ∙ event-at 1 es k h) in
       rw (at-event k, s, e) (five _ _ _ _ _ _ (rw (field-some, field-some, field-some, field-some, field-some)))
 
   each-text : (i : ℕ) → i < length rest → recordText (getD rest i []) ≡ textAt stamp ks es i

@@ -104,7 +104,7 @@ may-small i k e =
     let f = pick-facts (eqb i 0) (eqb k origin) (eqb k terminus || (between k && ltb i 31)) .0 e in
     split (eqb i 0)
     (λ z. omega (arith, eqb-true k origin (f .0 z)))
-    (λ z. or-facts (eqb k terminus) (between k && ltb i 31) (λ y. omega (arith, eqb-true k terminus y)) (λ y. between-small k (and-facts (between k) (ltb i 31) .0 y .0)) (f .1 z))
+    (λ z. or-facts (eqb k terminus) (between k && ltb i 31) (λ y. omega (arith, eqb-true k terminus y)) (λ y. omega (arith, between-small k (and-facts (between k) (ltb i 31) .0 y .0))) (f .1 z))
 
 module _ (i : ℕ) (f : List ℕ) where
   pub same-kind : (numeral f && mayStand i (value 0 f)) ≡ (isBelow (2 ^ 32) (marked 0 f) && mayStand i (numberIn (marked 0 f)))

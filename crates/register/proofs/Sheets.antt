@@ -36,13 +36,13 @@ unfolding rightEvents
 every-right [] h = refl
 every-right (e ∷ es) h = rw (h 0 (omega arith)) (every-right es (λ i l. h (suc i) (omega arith)))
 
--- ---- kinds are small
-pub between-small : (k : ℕ) → between k ≡ true → k < 2 ^ 32
+-- ---- a kind has one digit
+pub between-small : (k : ℕ) → between k ≡ true → k < 10
 unfolding between
 between-small k e =
     or-facts (eqb k 2) _ (λ z. omega (arith, eqb-true k 2 z)) (λ e′. or-facts (eqb k 3) _ (λ z. omega (arith, eqb-true k 3 z)) (λ z. omega (arith, eqb-true k 4 z)) e′) e
 
-fits-small : (n i k : ℕ) → kindFits n i k ≡ true → k < 2 ^ 32
+fits-small : (n i k : ℕ) → kindFits n i k ≡ true → k < 10
 unfolding kindFits
 fits-small n i k e =
     let f = pick-facts (eqb i 0) (eqb k 0) (pick (eqb (i + 1) n) (eqb k 1) (between k)) .0 e in
@@ -52,13 +52,13 @@ fits-small n i k e =
     let g = pick-facts (eqb (i + 1) n) (eqb k 1) (between k) .0 (f .1 z) in
     split (eqb (i + 1) n) (λ y. omega (arith, eqb-true k 1 (g .0 y))) (λ y. between-small k (g .1 y)))
 
-kinds-small : (n j : ℕ) (ks : List ℕ) → kindsFit n j ks ≡ true → Below (2 ^ 32) ks
+kinds-small : (n j : ℕ) (ks : List ℕ) → kindsFit n j ks ≡ true → Below 10 ks
 unfolding kindsFit
 kinds-small n j [] h i = omega arith
 kinds-small n j (k ∷ ks) h zero = fits-small n j k (and-facts (kindFits n j k) (kindsFit n (j + 1) ks) .0 h .0)
 kinds-small n j (k ∷ ks) h (suc i) = kinds-small n (j + 1) ks (and-facts (kindFits n j k) (kindsFit n (j + 1) ks) .0 h .1) i
 
-table-small : (ks : List ℕ) → tableOk ks ≡ true → Below (2 ^ 32) ks
+pub table-small : (ks : List ℕ) → tableOk ks ≡ true → Below 10 ks
 unfolding tableOk
 table-small ks h = kinds-small (length ks) 0 ks (and-facts (countFits (length ks)) _ .0 h .1)
 
@@ -79,7 +79,7 @@ module _ (t : Sheet) where
         fields = every (t .events) (λ i l. parts r i l .1);
         most = few;
         stamp = ltb-true (t .stamp) (2 ^ 32) (r .stamp);
-        kinds = table-small (t .kinds) (r .table);
+        kinds = λ i. omega (arith, table-small (t .kinds) (r .table) i);
         four = λ i l. parts r i l .0;
         stamps = λ i l. parts r i l .2;
       }

@@ -1,4 +1,5 @@
 pub mod Accepts
+pub mod AnyRoom
 pub mod BlockWords
 pub mod Bytes
 pub mod Calls

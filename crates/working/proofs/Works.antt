@@ -1,30 +1,27 @@
 -- Working a sheet, by its outcomes: refused as reading, refused for an answer, refused for the output, or worked.
 -- Assumes nothing.
-use Prim.Native.Nat.{ℕ, _+_, _*_, _/_, _≤_, _<_}
-use mathlib.Core.Path.{_≡_, refl, sym, ap, subst, _∙_}
-use mathlib.Core.Bool.{Bool, true, false, _&&_}
+use Prim.Native.Nat.{ℕ, _+_, _/_, _≤_, _<_}
+use mathlib.Core.Path.{_≡_, refl, ap, subst, _∙_}
+use mathlib.Core.Bool.{true, false, _&&_}
 use mathlib.Core.List.{List, [], _∷_, _++_}
 use native.Mathlib.Omega.{arith}
-use borrow.Author.Tests.{eq-eqb, ne-eqb, le-leb, lt-leb, lt-ltb, le-ltb, eqb-true, eqb-false, ltb-true}
-use lib.Dec.{eqb, leb, ltb}
-use lib.ListN.{length, take, drop, replicate, length-append, length-replicate}
-use lib.Seq.{take-at}
+use borrow.Author.Tests.{eq-eqb, ne-eqb, le-leb, lt-leb, lt-ltb, le-ltb, eqb-false}
+use lib.Dec.{eqb, ltb}
+use lib.ListN.{length, drop}
 use Rattle.relay.proofs.Frame.{answer-is, answer-small}
 use Rattle.relay.proofs.Truth.{and-facts}
 use Rattle.relay.specs.Kinds.{tableOk}
 use Rattle.relay.specs.Line.{After, head}
 use Rattle.row.specs.Row.{rowOf}
-use Rattle.sheet.proofs.Rooms.{posts-few, entries-few, kinds-long, events-long, all-kinds, all-events, table-right, bytes-are, room-both, read-refused, read-found}
+use Rattle.sheet.proofs.Rooms.{entries-few, events-long, all-kinds, all-events, table-right, bytes-are}
 use Rattle.sheet.proofs.Fields.{every}
 use Rattle.sheet.proofs.Packing.{unpacked-fields}
 use Rattle.sheet.proofs.Tabs.{getD-tab}
 use Rattle.sheet.specs.Entry.{numberOf, postOf, answerOf, stampOf, inFields}
-use Rattle.sheet.specs.Check.{word}
 use Rattle.sheet.specs.Layout.{perBlock, contentsWrong, roomShort}
-use Rattle.sheet.specs.Reading.{accepted, verdict, verdictOf, entriesIn, entryIn, decode, refused, found, handed, readOf}
+use Rattle.sheet.specs.Reading.{accepted, verdict, verdictOf, entriesIn, entryIn, decode, refused}
 use Rattle.sheet.specs.Sheet.{Sheet, encode}
 use Rattle.sheet.specs.Writing.{allInFields, bytesFor, writeNumber, written, Writes}
-use Rattle.sheet.specs.declared.Found.{Found}
 use Rattle.sheet.specs.declared.Verdict.{Verdict}
 use Rattle.working.specs.Run.{begun, next, run, answeredBy, answered}
 use Rattle.working.specs.Working.{firstAnswered, worked, workVerdict, workOf, workedBytes, Works, ranOf, ranEvents}
@@ -35,53 +32,7 @@ use Rattle.working.proofs.Steps.{answered-long}
 abbrev pub no : Verdict → Worked
 no v = record { number = v .number; block = v .block; row = rowOf []; head = head 0 0 }
 
--- what reading hands out stands at the front of its room: n of xs, kinds or events
-pub front : {X : Type 0} (r : Found) → r .number ≡ 0 → (n : ℕ) (xs room room′ : List X) → n ≡ length xs → room′ ≡ handed r xs room
-    → (take n room′ ≡ xs) × (n ≤ length room′)
-front r z n xs room room′ l f = rw (f, eq-eqb (r .number) 0 z, l) (take-at _ _ _ refl, simp length-append (omega arith))
-
 module _ (s : List ℕ) where
-  -- ---- reading with room for any sheet
-  -- such room, of any numbers
-  abbrev ks : List ℕ
-  ks = replicate 32 0
-
-  abbrev es : List (List ℕ)
-  es = replicate 3780 []
-
-  ks-long : length ks ≡ 32
-  ks-long = length-replicate {A = ℕ} 32 0
-
-  es-long : length es ≡ 3780
-  es-long = length-replicate {A = List ℕ} 3780 []
-
-  as-read : (r : Found) → r ≡ readOf s (length ks) (length es) → r ≡ readOf s 32 3780
-  as-read r e = e ∙ ap (λ (k : ℕ). readOf s k (length es)) ks-long ∙ ap (λ (m : ℕ). readOf s 32 m) es-long
-
-  enough : verdictOf s .number ≡ 0 → found (decode s) ≡ readOf s 32 3780
-  enough z =
-      as-read (found (decode s)) (read-found s ks es z (room-both s ks es (omega (arith, ks-long, posts-few s z)) (omega (arith, es-long, entries-few s z))) .0)
-
-  not-read : accepted s ≡ false → refused (verdictOf s) ≡ readOf s 32 3780
-  not-read h = as-read (refused (verdictOf s)) (read-refused s ks es (verdictOf s) refl (eqb-false _ 0 h) .0)
-
-  module _ (r : Found) (e : r ≡ readOf s 32 3780) where
-    bad-by : (b : Bool) → accepted s ≡ b → (r .number ≡ 0 → ⊥) → (accepted s ≡ false) × (r ≡ refused (verdictOf s))
-    bad-by true h n = absurd (n (ap (λ (x : Found). x .number) (e ∙ sym (enough (eqb-true _ 0 h)))))
-    bad-by false h n = (h, e ∙ sym (not-read h))
-
-    -- refused: as reading refuses
-    pub bad : (r .number ≡ 0 → ⊥) → (accepted s ≡ false) × (r ≡ refused (verdictOf s))
-    bad n = bad-by (accepted s) refl n
-
-    good-by : (b : Bool) → accepted s ≡ b → r .number ≡ 0 → (verdictOf s .number ≡ 0) × (r ≡ found (decode s))
-    good-by true h z = (eqb-true _ 0 h, e ∙ sym (enough (eqb-true _ 0 h)))
-    good-by false h z = absurd (eqb-false (verdictOf s .number) 0 h (sym (ap (λ (x : Found). x .number) (e ∙ sym (not-read h))) ∙ z))
-
-    -- taken: what the sheet says
-    pub good : r .number ≡ 0 → (verdictOf s .number ≡ 0) × (r ≡ found (decode s))
-    good z = good-by (accepted s) refl z
-
   -- ---- the outcomes
   module _ (out : List ℕ) where
     refuse-with : (v : Verdict) → workVerdict s (length out) ≡ v → (v .number ≡ 0 → ⊥) → Works s (no v) out out

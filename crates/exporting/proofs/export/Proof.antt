@@ -12,7 +12,8 @@ use Rattle.sheet.specs.Reading.{verdictOf, decode, found}
 use Rattle.sheet.specs.declared.Found.{Found}
 use Rattle.exporting.specs.Exporting.{textFor}
 use Rattle.exporting.specs.Fields.{registerOf, Few}
-use Rattle.exporting.proofs.Outcomes.{bad, good, front, exports-unread, exports-short, exports-done}
+use Rattle.sheet.proofs.AnyRoom.{bad, good, front}
+use Rattle.exporting.proofs.Outcomes.{exports-unread, exports-short, exports-done}
 use Rattle.exporting.proofs.Registers.{exported-is}
 use Rattle.exporting.proofs.export.Statement.{statement}
 use Rattle.exporting.proofs.export.Tie as tie

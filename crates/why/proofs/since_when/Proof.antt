@@ -13,7 +13,8 @@ use Rattle.sheet.proofs.Rooms.{events-long, entries-few}
 use Rattle.sheet.specs.Entry.{answerOf}
 use Rattle.sheet.specs.Reading.{verdictOf, decode, found}
 use Rattle.sheet.specs.declared.Found.{Found}
-use Rattle.working.proofs.Works.{front, bad, good, said-table}
+use Rattle.sheet.proofs.AnyRoom.{front, bad, good}
+use Rattle.working.proofs.Works.{said-table}
 use Rattle.why.specs.Why.{eventAt, speaks}
 use Rattle.why.proofs.Asked.{below-first, past-last, other-answer, is-asked, since-unread, since-not-asked, since-asked, event-read}
 use Rattle.why.proofs.since_when.Statement.{statement}
