@@ -4,6 +4,7 @@ pub mod Judged
 pub mod Counts
 pub mod Fold
 pub mod Kept
+pub mod Told
 pub mod Follows
 pub mod Ends
 pub mod Runs

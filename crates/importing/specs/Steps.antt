@@ -2,7 +2,7 @@
 -- That it follows what `register` reads of every text shorter than 2^64 bytes stands in proofs/Follows.antt.
 -- Assumes nothing.
 use Prim.Native.Nat.{ℕ, _+_, _-_, _^_}
-use mathlib.Core.Bool.{Bool, _&&_}
+use mathlib.Core.Bool.{Bool, true, false, _&&_}
 use mathlib.Core.List.{List, []}
 use lib.Dec.{eqb, ltb, leb}
 use lib.ListN.{length, getD}
@@ -45,12 +45,15 @@ withLetter w m b = pick (ltb m (length w)) (pick (eqb (getD w m 0) b) (m + 1) wr
 abbrev pub word : ℕ → List ℕ
 word i = getD header i []
 
+abbrev pub isHeader : Stage → Bool
+isHeader AtHeader = true
+isHeader AtStart = false
+isHeader AtKinds = false
+isHeader AtEvents = false
+
 -- at this stage, of the field at place i
 abbrev pub markNext : Stage → ℕ → ℕ → ℕ → ℕ
-markNext AtHeader i m b = withLetter (word i) m b
-markNext AtStart i m b = withDigit m b
-markNext AtKinds i m b = withDigit m b
-markNext AtEvents i m b = withDigit m b
+markNext g i m b = pick (isHeader g) (withLetter (word i) m b) (withDigit m b)
 
 -- the number that a mark says, where it has 32 bits
 unfoldable pub numberIn : ℕ → ℕ

@@ -3,7 +3,7 @@
 ghost use mathlib.Core.Path.{_≡_};
 ghost use lib.ListN.{length};
 ghost use Rattle.importing.specs.Importing.{refused, isStart, isWhole, isDone, recordAt, recordIn, closed, settleOf, settleInto, Settles, Imports};
-ghost use Rattle.importing.specs.Rooms.{entryIn, fedAt, keptKind, keptEvent, Feeds};
+ghost use Rattle.importing.specs.Rooms.{entryIn, fedAt, keptKind, keptEvent, fedNext, Feeds};
 ghost use Rattle.register.specs.Register.{isEvents};
 
 mod stands;
@@ -70,6 +70,19 @@ fn keep_event(events: &mut [[u32; 4]], known: u64, s: State)
     events[at] = entry_of(k);
 }
 
+// One byte more. Nothing is told but at the end of a record, which is an LF.
+fn take(b: u8, s: State, kinds: &mut [u32], events: &mut [[u32; 4]]) -> State
+    ensures { λ r. ⌜ fedAt r (now (kinds .exit)) (now (events .exit)) ≡ fedNext (fedAt s (now (kinds .entry)) (now (events .entry))) b ⌝ }
+{
+    let next = steps::step(s, b);
+    if b != 10 {
+        return next;
+    }
+    keep_kind(kinds, s.posts, next);
+    keep_event(events, s.events, next);
+    next
+}
+
 // The next piece of a text: its kinds and events go to their rooms, as many as fit.
 pub fn feed(text: &[u8], s: State, kinds: &mut [u32], events: &mut [[u32; 4]]) -> State
     ensures { λ r. ⌜ Feeds (now (text .entry)) s r (now (kinds .entry)) (now (kinds .exit)) (now (events .entry)) (now (events .exit)) ⌝ }
@@ -77,10 +90,7 @@ pub fn feed(text: &[u8], s: State, kinds: &mut [u32], events: &mut [[u32; 4]]) -
     let mut last = s;
     let mut i: usize = 0;
     while i < text.len() {
-        let next = steps::step(last, text[i]);
-        keep_kind(kinds, last.posts, next);
-        keep_event(events, last.events, next);
-        last = next;
+        last = take(text[i], last, kinds, events);
         i += 1;
     }
     last

@@ -1,6 +1,6 @@
 // One byte of a register's text: the state before it in, the state after it out.
 ghost use mathlib.Core.Path.{_≡_};
-ghost use Rattle.importing.specs.Steps.{begun, withLetter, word, markNext, moved, pushed, placeNext, ended, acted, stateNext};
+ghost use Rattle.importing.specs.Steps.{begun, withLetter, word, isHeader, markNext, moved, pushed, placeNext, ended, acted, stateNext};
 ghost use Rattle.register.specs.declared.Act.the-variants.{Add};
 ghost use Rattle.register.specs.Lexer.{adding};
 use crate::stands;
@@ -89,16 +89,25 @@ fn with_header(place: u32, m: u64, b: u8) -> u64
     WRONG
 }
 
+fn is_header(stage: Stage) -> bool
+    ensures { λ r. ⌜ r ≡ isHeader stage ⌝ }
+{
+    match stage {
+        Stage::AtHeader => true,
+        Stage::AtStart => false,
+        Stage::AtKinds => false,
+        Stage::AtEvents => false,
+    }
+}
+
 // A field's mark after one byte more.
 fn mark_next(stage: Stage, place: u32, m: u64, b: u8) -> u64
     ensures { λ r. ⌜ r ≡ markNext stage place m b ⌝ }
 {
-    match stage {
-        Stage::AtHeader => with_header(place, m, b),
-        Stage::AtStart => digits::with_digit(m, b),
-        Stage::AtKinds => digits::with_digit(m, b),
-        Stage::AtEvents => digits::with_digit(m, b),
+    if is_header(stage) {
+        return with_header(place, m, b);
     }
+    digits::with_digit(m, b)
 }
 
 // In quotes or not, where a byte was added.

@@ -1,7 +1,6 @@
 -- The examples, computed: each text is accepted or refused at its record, and the short one gives its sheet and is what export writes of it.
 -- Assumes nothing.
 use mathlib.Core.Path.{_≡_, refl}
-use mathlib.Core.Bool.{true}
 use Rattle.relay.specs.Kinds.{between}
 use Rattle.digits.specs.Digits.{digits, digitsIn, value}
 use Rattle.sheet.specs.Entry.{inFields}

@@ -33,14 +33,14 @@ lines-snoc [] r = refl
 lines-snoc (q ∷ rows) r = rw (lines-snoc rows r, append-assoc (line q))
 
 -- the byte of a class
-byteOf : Class → ℕ → ℕ
+unfoldable pub byteOf : Class → ℕ → ℕ
 byteOf Quote b = quote
 byteOf Comma b = comma
 byteOf Cr b = cr
 byteOf Lf b = lf
 byteOf Other b = b
 
-class-byte : (b : ℕ) → b ≡ byteOf (class b) b
+pub class-byte : (b : ℕ) → b ≡ byteOf (class b) b
 unfolding class byteOf
 class-byte b = by (eqb b quote) (eqb b comma) (eqb b cr) (eqb b lf) (eqb-true b quote) (eqb-true b comma) (eqb-true b cr) (eqb-true b lf)
   where

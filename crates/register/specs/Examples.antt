@@ -96,6 +96,10 @@ quoteOpen = 49 ∷ 44 ∷ 53 ∷ 44 ∷ 48 ∷ 44 ∷ 49 ∷ 48 ∷ 48 ∷ 48 �
 abbrev pub doubled : List ℕ
 doubled = 49 ∷ 44 ∷ 34 ∷ 53 ∷ 34 ∷ 34 ∷ 34 ∷ 44 ∷ 48 ∷ 44 ∷ 49 ∷ 48 ∷ 48 ∷ 48 ∷ 44 ∷ 51 ∷ 49 ∷ []
 
+-- ,,,00,
+abbrev pub zeros : List ℕ
+zeros = 44 ∷ 44 ∷ 44 ∷ 48 ∷ 48 ∷ 44 ∷ []
+
 -- ,1,0,,
 abbrev pub postAgain : List ℕ
 postAgain = 44 ∷ 49 ∷ 44 ∷ 48 ∷ 44 ∷ 44 ∷ []
@@ -162,6 +166,8 @@ texts =
     ∷ withPost1 postAgain
     ∷ withPost1 originAgain
     ∷ withPost1 between
+    -- a leading zero in the start stamp
+    ∷ (headerRow ++ (end ++ (zeros ++ end)))
     ∷ []
 
 abbrev pub said : List ℕ
@@ -172,4 +178,5 @@ said =
     ∷ 6 ∷ 6 ∷ 5 ∷ 5
     ∷ 5 ∷ 5 ∷ 5 ∷ 5 ∷ 5 ∷ 5 ∷ 5 ∷ 5 ∷ 5 ∷ 5 ∷ 5 ∷ 5
     ∷ 4 ∷ 4 ∷ 5
+    ∷ 2
     ∷ []

@@ -1,7 +1,8 @@
 // The register in comma-separated text: which bytes mean something, and what each byte does where it stands.
 // What a right text is, and what is read of any text, stands in specs/; the theorems stand in proofs/.
 ghost use mathlib.Core.Path.{_≡_};
-ghost use Rattle.register.specs.Lexer.{class, opening, inPlain, inQuotes, afterQuote, afterCr, action};
+ghost use Rattle.register.specs.Lexer.{class, action};
+ghost use Rattle.register.specs.declared.Class.the-variants.{Quote, Comma, Cr, Lf, Other};
 
 // The bytes that mean something to RFC 4180, and the others.
 pub enum Class {
@@ -66,68 +67,73 @@ pub fn class_of(b: u8) -> Class
     Class::Other
 }
 
-// The first byte of a field.
-fn first_byte(c: Class) -> Act
-    ensures { λ r. ⌜ r ≡ opening c ⌝ }
+// A quote opens a field, or closes it.
+fn quote_at(m: Mode) -> Act
+    ensures { λ r. ⌜ r ≡ action m Quote ⌝ }
 {
-    match c {
-        Class::Quote => Act::Open,
-        Class::Comma => Act::EndField,
-        Class::Cr => Act::EndLine,
-        Class::Lf => Act::Break,
-        Class::Other => Act::Add,
+    match m {
+        Mode::Start => Act::Open,
+        Mode::Plain => Act::Break,
+        Mode::Inside => Act::Close,
+        Mode::Closing => Act::Break,
+        Mode::AtCr => Act::Break,
+        Mode::Broken => Act::Break,
     }
 }
 
-// A further byte of a field that is not quoted.
-fn further_byte(c: Class) -> Act
-    ensures { λ r. ⌜ r ≡ inPlain c ⌝ }
+// A comma ends a field, but for one in quotes.
+fn comma_at(m: Mode) -> Act
+    ensures { λ r. ⌜ r ≡ action m Comma ⌝ }
 {
-    match c {
-        Class::Comma => Act::EndField,
-        Class::Cr => Act::EndLine,
-        Class::Other => Act::Add,
-        Class::Quote => Act::Break,
-        Class::Lf => Act::Break,
+    match m {
+        Mode::Start => Act::EndField,
+        Mode::Plain => Act::EndField,
+        Mode::Inside => Act::Add,
+        Mode::Closing => Act::EndField,
+        Mode::AtCr => Act::Break,
+        Mode::Broken => Act::Break,
     }
 }
 
-// A byte in quotes.
-fn quoted_byte(c: Class) -> Act
-    ensures { λ r. ⌜ r ≡ inQuotes c ⌝ }
+// A CR ends the last field of a record.
+fn cr_at(m: Mode) -> Act
+    ensures { λ r. ⌜ r ≡ action m Cr ⌝ }
 {
-    match c {
-        Class::Quote => Act::Close,
-        Class::Comma => Act::Add,
-        Class::Cr => Act::Add,
-        Class::Lf => Act::Add,
-        Class::Other => Act::Add,
+    match m {
+        Mode::Start => Act::EndLine,
+        Mode::Plain => Act::EndLine,
+        Mode::Inside => Act::Add,
+        Mode::Closing => Act::EndLine,
+        Mode::AtCr => Act::Break,
+        Mode::Broken => Act::Break,
     }
 }
 
-// The byte after a closing quote.
-fn byte_after_quote(c: Class) -> Act
-    ensures { λ r. ⌜ r ≡ afterQuote c ⌝ }
+// An LF ends a record, behind a CR.
+fn lf_at(m: Mode) -> Act
+    ensures { λ r. ⌜ r ≡ action m Lf ⌝ }
 {
-    match c {
-        Class::Comma => Act::EndField,
-        Class::Cr => Act::EndLine,
-        Class::Quote => Act::Break,
-        Class::Lf => Act::Break,
-        Class::Other => Act::Break,
+    match m {
+        Mode::Start => Act::Break,
+        Mode::Plain => Act::Break,
+        Mode::Inside => Act::Add,
+        Mode::Closing => Act::Break,
+        Mode::AtCr => Act::EndRecord,
+        Mode::Broken => Act::Break,
     }
 }
 
-// The byte after CR.
-fn byte_after_cr(c: Class) -> Act
-    ensures { λ r. ⌜ r ≡ afterCr c ⌝ }
+// Any other byte is one of a field.
+fn other_at(m: Mode) -> Act
+    ensures { λ r. ⌜ r ≡ action m Other ⌝ }
 {
-    match c {
-        Class::Lf => Act::EndRecord,
-        Class::Quote => Act::Break,
-        Class::Comma => Act::Break,
-        Class::Cr => Act::Break,
-        Class::Other => Act::Break,
+    match m {
+        Mode::Start => Act::Add,
+        Mode::Plain => Act::Add,
+        Mode::Inside => Act::Add,
+        Mode::Closing => Act::Break,
+        Mode::AtCr => Act::Break,
+        Mode::Broken => Act::Break,
     }
 }
 
@@ -135,12 +141,11 @@ fn byte_after_cr(c: Class) -> Act
 pub fn action_of(m: Mode, c: Class) -> Act
     ensures { λ r. ⌜ r ≡ action m c ⌝ }
 {
-    match m {
-        Mode::Start => first_byte(c),
-        Mode::Plain => further_byte(c),
-        Mode::Inside => quoted_byte(c),
-        Mode::Closing => byte_after_quote(c),
-        Mode::AtCr => byte_after_cr(c),
-        Mode::Broken => Act::Break,
+    match c {
+        Class::Quote => quote_at(m),
+        Class::Comma => comma_at(m),
+        Class::Cr => cr_at(m),
+        Class::Lf => lf_at(m),
+        Class::Other => other_at(m),
     }
 }

@@ -3,10 +3,10 @@
 use Prim.Native.Nat.{_+_, _-_, _≤_}
 use mathlib.Core.Path.{_≡_, refl, sym, ap, _∙_}
 use native.Mathlib.Omega.{arith}
-use lib.ListN.{length, drop, getD}
+use lib.ListN.{length, drop}
 use Rattle.relay.proofs.Tests.{tests}
-use Rattle.importing.specs.Rooms.{Fed, fedAt, fed, fedNext}
-use Rattle.importing.proofs.Fold.{fold-more, fold-end, kinds-long, events-long}
+use Rattle.importing.specs.Rooms.{Fed, fedAt, fed}
+use Rattle.importing.proofs.Fold.{fold-more, fold-end}
 use Rattle.importing.proofs.feed.Statement.{statement}
 use Rattle.importing.proofs.feed.Tie as tie
 
@@ -23,17 +23,11 @@ abbrev μ-loop : tie.MeasureT-loop
 loop-holds : tie.Need-loop-holds Inv-loop μ-loop
 loop-holds c = (omega arith, refl, refl, refl)
 
-shared-slice-read-step : tie.Need-shared-slice-read-step Inv-loop μ-loop
-shared-slice-read-step c = search tests
+shared-slice-read-take : tie.Need-shared-slice-read-take Inv-loop μ-loop
+shared-slice-read-take c = search tests
 
-step-requires : tie.Need-step-requires Inv-loop μ-loop
-step-requires c κs = search tests
-
-keep-kind-requires : tie.Need-keep-kind-requires Inv-loop μ-loop
-keep-kind-requires c κs = search tests
-
-keep-event-requires : tie.Need-keep-event-requires Inv-loop μ-loop
-keep-event-requires c κs = search tests
+take-requires : tie.Need-take-requires Inv-loop μ-loop
+take-requires c κs = search tests
 
 add-i : tie.Need-add-i Inv-loop μ-loop
 add-i c = search tests
@@ -42,20 +36,15 @@ loop-less : tie.Need-loop-less Inv-loop μ-loop
 loop-less c = search tests
 
 loop-again : tie.Need-loop-again Inv-loop μ-loop
-unfolding fedNext
 loop-again c =
-    let l = c .before .before .before .before .before .before .before .before .before .before in
-    let a = l .before .before .before .args in
-    let t = a .text .now in
+    let l = c .before .before .before .before .before .before .before .before in
+    let t = l .before .before .before .args .text .now in
     let i = l .loop .i in
-    let st = c .before .before .before .before .before .before .before .step .ensures in
-    let kk = c .before .before .before .before .before .keep-kind .ensures in
-    let ke = c .before .keep-event .ensures in
-    let turn : fedAt (c .before .before .before .before .before .before .before .step .result) (c .before .before .before .before .before .keep-kind .last .0) (c .before .keep-event .last .0) ≡ fedNext (fedAt (l .loop .last) (l .loop .kinds) (l .loop .events)) (getD t i 0) = rw (ke, kk, st) in (
+    let w = c .before .before .before .take in (
       omega arith,
-      ap (λ (f : Fed). fed f (drop (i + 1) t)) turn ∙ fold-more (fedAt (l .loop .last) (l .loop .kinds) (l .loop .events)) t i (omega arith) ∙ l .loop .inv .1,
-      rw kk (kinds-long _ _ _ ∙ l .loop .inv .2),
-      rw ke (events-long _ _ _ ∙ l .loop .inv .3),
+      ap (λ (f : Fed). fed f (drop (i + 1) t)) (w .ensures) ∙ fold-more (fedAt (l .loop .last) (l .loop .kinds) (l .loop .events)) t i (omega arith) ∙ l .loop .inv .1,
+      omega (arith, w .kept .1 .1 .0, l .loop .inv .2),
+      omega (arith, w .kept .1 .1 .1 .0, l .loop .inv .3),
     )
 
 same-length : tie.Need-same-length Inv-loop μ-loop
@@ -76,10 +65,8 @@ feed-spec =
     Inv-loop
     μ-loop
     loop-holds
-    shared-slice-read-step
-    step-requires
-    keep-kind-requires
-    keep-event-requires
+    shared-slice-read-take
+    take-requires
     add-i
     loop-less
     loop-again
