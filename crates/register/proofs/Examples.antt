@@ -12,7 +12,7 @@ use Rattle.register.specs.Register.{exported, accepts, sheetIn}
 use Rattle.register.specs.Texts.{line, lines, saidIn, saidAll, bareIn, bareAll}
 
 pub each-says : examples.allSay examples.texts ≡ examples.said
-unfolding examples.allSay accepts class act step run finish part commas line saidIn saidAll same alike mayStand between inFields wanted within stands takenAs standing after startRecord kindRecord eventRecord digits digitsIn value
+unfolding examples.allSay exported lines bareIn bareAll records kindRecords eventRecords accepts class act step run finish part commas line saidIn saidAll same alike mayStand between inFields wanted within stands takenAs standing after startRecord kindRecord eventRecord digits digitsIn value
 each-says = refl
 
 pub short-gives : sheetIn examples.shortText ≡ examples.shortSheet

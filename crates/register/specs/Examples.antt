@@ -3,10 +3,11 @@
 -- Assumes nothing.
 use Prim.Native.Nat.{ℕ}
 use mathlib.Core.List.{List, [], _∷_, _++_}
+use lib.ListN.{replicate}
 use Rattle.relay.specs.Choice.{pick}
 use Rattle.sheet.specs.Entry.{entry}
 use Rattle.sheet.specs.Sheet.{Sheet}
-use Rattle.register.specs.Register.{accepts, named}
+use Rattle.register.specs.Register.{exported, accepts, named}
 
 -- two posts, and one event: 5 at post 0, stamped 1000, not yet answered
 abbrev pub shortSheet : Sheet
@@ -166,6 +167,8 @@ texts =
     ∷ withPost1 postAgain
     ∷ withPost1 originAgain
     ∷ withPost1 between
+    -- 33 posts: at post 31 only a 1 can stand
+    ∷ exported (record { stamp = 0; kinds = 0 ∷ (replicate 31 4 ++ (1 ∷ [])); events = [] })
     -- a leading zero in the start stamp
     ∷ (headerRow ++ (end ++ (zeros ++ end)))
     ∷ []
@@ -178,5 +181,6 @@ said =
     ∷ 6 ∷ 6 ∷ 5 ∷ 5
     ∷ 5 ∷ 5 ∷ 5 ∷ 5 ∷ 5 ∷ 5 ∷ 5 ∷ 5 ∷ 5 ∷ 5 ∷ 5 ∷ 5
     ∷ 4 ∷ 4 ∷ 5
+    ∷ 34
     ∷ 2
     ∷ []
