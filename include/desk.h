@@ -27,11 +27,10 @@ extern "C" {
 enum { DESK_POSTS = 32, DESK_EVENTS = 3780, DESK_BLOCK = 512, DESK_SHEET = 32768 };
 
 /*
- * The register of a sheet is at most DESK_TEXT bytes, CR LF counted: the header 34; the start stamp, of ten digits, 16;
- * posts 0 to 9 8 each and posts 10 to 31 9 each; an event 22 (event, post and answer of two digits, a stamp of ten,
- * four commas, CR LF) and the digits of its position, which are 14,013 in all for positions 1 to 3,780.
+ * The register of a sheet is at most DESK_TEXT bytes, CR LF counted: the header 34, the start stamp at most 16, a post
+ * at most 9, an event at most 26.
  */
-enum { DESK_TEXT = 34 + 16 + 10 * 8 + 22 * 9 + DESK_EVENTS * 22 + 14013 };
+enum { DESK_TEXT = 34 + 16 + DESK_POSTS * 9 + DESK_EVENTS * 26 };
 
 /*
  * The relays, as bits of the word of a post. DESK_JAM is up while the release button of the post is stuck; it is

@@ -119,7 +119,7 @@ pub struct Imported {
 }
 
 /// A room that the register of any sheet fits into, and one that any sheet fits into.
-pub const TEXT: usize = 97_501;
+pub const TEXT: usize = 98_618;
 pub const SHEET: usize = 32_768;
 
 /// An event of a sheet: number, post (8, 9, 10: section), answer, stamp.
