@@ -84,5 +84,5 @@ settled-within f m =
     rw n at (write-fits (sheetAt (f .state) (f .kinds) (f .events)) m c))
     (λ e. omega arith)
 
-pub settles-within : (f : Fed) (r : Imported) (out out′ : List ℕ) → Settles f r out out′ → r .bytes ≤ length out
-settles-within f r out out′ s = rw (s .0) (settled-within (closed f) (length out))
+pub settles-within : (f : Fed) (r : Imported) (ks : List ℕ) (es : List (List ℕ)) (out out′ : List ℕ) → Settles f r ks es out out′ → r .bytes ≤ length out
+settles-within f r ks es out out′ s = rw (s .0) (settled-within (closed f) (length out))

@@ -100,6 +100,10 @@ unfoldable pub settleInto : Fed → List ℕ → List ℕ
 settleInto f out =
     pick (eqb (settleNumber f (length out)) 0) (written (sheetAt (f .state) (f .kinds) (f .events)) out) out
 
--- the state and both rooms lent, f; what is returned and the output afterwards
-abbrev pub Settles : Fed → Imported → List ℕ → List ℕ → Type 0
-Settles f r out out′ = (r ≡ settleOf (closed f) (length out)) × (out′ ≡ settleInto (closed f) out)
+-- the state and both rooms lent, f; what is returned, and the rooms and the output afterwards
+abbrev pub Settles : Fed → Imported → List ℕ → List (List ℕ) → List ℕ → List ℕ → Type 0
+Settles f r ks′ es′ out out′ =
+    (r ≡ settleOf (closed f) (length out))
+    × (out′ ≡ settleInto (closed f) out)
+    × (ks′ ≡ closed f .kinds)
+    × (es′ ≡ closed f .events)

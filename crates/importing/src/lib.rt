@@ -202,7 +202,7 @@ fn write_fed(s: State, kinds: &[u32], events: &[[u32; 4]], out: &mut [u8]) -> Im
 
 // The text is at its end: writes the sheet that was fed to the front of `out`, or refuses.
 pub fn settle(s: State, kinds: &mut [u32], events: &mut [[u32; 4]], out: &mut [u8]) -> Imported
-    ensures { λ r. ⌜ Settles (fedAt s (now (kinds .entry)) (now (events .entry))) r (now (out .entry)) (now (out .exit)) ⌝ }
+    ensures { λ r. ⌜ Settles (fedAt s (now (kinds .entry)) (now (events .entry))) r (now (kinds .exit)) (now (events .exit)) (now (out .entry)) (now (out .exit)) ⌝ }
 {
     let last = close(s, kinds, events);
     write_fed(last, kinds, events, out)

@@ -29,7 +29,7 @@ returns c = search tests
 array-share-prefix-out : tie.Need-array-share-prefix-out
 array-share-prefix-out c =
     let w = c .before .before .before .before .before .settle in
-    omega (arith, settles-within _ _ _ _ (w .ensures), w .kept .1 .1 .1 .0)
+    omega (arith, settles-within _ _ _ _ _ _ (w .ensures), w .kept .1 .1 .1 .0)
 
 slice-aggregate-print : tie.Need-slice-aggregate-print
 slice-aggregate-print c = sym (length-take-le _ _ (array-share-prefix-out (c .before)))

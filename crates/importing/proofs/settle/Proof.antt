@@ -27,7 +27,12 @@ returns : tie.Need-returns
 returns c =
     let e = c .before .before .write-fed .ensures in
     let q = c .before .before .before .before .before .before .before .before .before .close .ensures in
-    (e .0 ∙ ap (λ (f : Fed). settleOf f (length (c .before .before .before .before .before .before .before .before .before .before .before .before .before .before .args .out .now))) q, e .1 ∙ ap (λ (f : Fed). settleInto f (c .before .before .before .before .before .before .before .before .before .before .before .before .before .before .args .out .now)) q)
+    let out = c .before .before .before .before .before .before .before .before .before .before .before .before .before .before .args .out .now in (
+      e .0 ∙ ap (λ (f : Fed). settleOf f (length out)) q,
+      e .1 ∙ ap (λ (f : Fed). settleInto f out) q,
+      ap (λ (f : Fed). f .kinds) q,
+      ap (λ (f : Fed). f .events) q,
+    )
 
 pub settle-spec : {M : Type 1} → statement M
 settle-spec =
