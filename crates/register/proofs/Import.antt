@@ -316,10 +316,14 @@ named-one text j k a b =
     (λ h. least-or-below k j (λ g. omega arith) (λ g. absurd (a .with-it (b .before j g))))
     (λ h. absurd (b .with-it (a .before k h)))
 
--- what import accepts, exported, is the same text with no quotes and with its last line end
-pub accepted-exported : (text : List ℕ) (e : accepts text ≡ true) → exported (sheetIn text) ≡ lines (bareAll (saidAll (accepted-right text e .1 .rows)))
+-- a right text, exported again, is the same text with no quotes and with its last line end
+pub right-exported : (t : Sheet) (text : List ℕ) (w : RightText t text) → exported t ≡ lines (bareAll (saidAll (w .rows)))
 unfolding exported
-accepted-exported text e = ap (λ (rs : List Rec). lines (bareAll rs)) (sym (accepted-right text e .1 .says))
+right-exported t text w = ap (λ (rs : List Rec). lines (bareAll rs)) (sym (w .says))
+
+-- so is what import accepts
+pub accepted-exported : (text : List ℕ) (e : accepts text ≡ true) → exported (sheetIn text) ≡ lines (bareAll (saidAll (accepted-right text e .1 .rows)))
+accepted-exported text e = right-exported (sheetIn text) text (accepted-right text e .1)
 
 -- ---- what a right text begins with
 -- the first j records of the text, as they stand there, begin a right text of a right sheet

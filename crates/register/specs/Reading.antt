@@ -1,4 +1,5 @@
--- Records to a sheet: what may stand next, and what is then known of the sheet.
+-- Records to a sheet: what may stand next, and what is then known of the sheet. 02, item 3: 'the first record that can't stand there in a right text of any length'.
+-- A record stands where it is, byte for byte, the one that its own numbers would be written as, and they are within their bounds; so a leading zero, a space or a field too many is no question of its own.
 -- Assumes nothing.
 use Prim.Native.Nat.{ℕ, suc, _^_}
 use mathlib.Core.Bool.{Bool, true, false, _&&_, _||_}
@@ -22,6 +23,7 @@ pub record Read : Type 0 where
 abbrev pub known : Stage → ℕ → List ℕ → List (List ℕ) → Read
 known g stamp kinds events = record { stage = g; sheet = record { stamp = stamp; kinds = kinds; events = events } }
 
+-- nothing read
 abbrev pub nothing : Read
 nothing = known AtHeader 0 [] []
 
@@ -42,6 +44,7 @@ alike (x ∷ xs) (y ∷ ys) = same x y && alike xs ys
 abbrev pub num : List (List ℕ) → ℕ → ℕ
 num r i = value 0 (getD r i [])
 
+-- the event that a record says
 abbrev pub eventIn : List (List ℕ) → List ℕ
 eventIn r = entry (num r 1) (num r 2) (num r 4) (num r 3)
 
@@ -67,6 +70,7 @@ within AtEvents t r = inFields (eventIn r) && ltb (num r 3) (2 ^ 32)
 unfoldable pub stands : Read → List (List ℕ) → Bool
 stands s r = alike r (wanted (s .stage) (s .sheet) r) && within (s .stage) (s .sheet) r
 
+-- what is known after a record that stands; a 1 ends the table
 unfoldable pub takenAs : Stage → Sheet → List (List ℕ) → Read
 takenAs AtHeader t r = known AtStart (t .stamp) (t .kinds) (t .events)
 takenAs AtStart t r = known AtKinds (num r 3) (t .kinds) (t .events)

@@ -21,12 +21,15 @@ header =
     ∷ (97 ∷ 110 ∷ 115 ∷ 119 ∷ 101 ∷ 114 ∷ [])
     ∷ []
 
+-- ',,,START,'
 unfoldable pub startRecord : ℕ → List (List ℕ)
 startRecord stamp = [] ∷ [] ∷ [] ∷ digits stamp ∷ [] ∷ []
 
+-- ',KIND,POST,,'
 unfoldable pub kindRecord : ℕ → ℕ → List (List ℕ)
 kindRecord post kind = [] ∷ digits kind ∷ digits post ∷ [] ∷ [] ∷ []
 
+-- 'POSITION,EVENT,POST,STAMP,ANSWER'
 unfoldable pub eventRecord : ℕ → List ℕ → List (List ℕ)
 eventRecord position e =
     digits position ∷ digits (numberOf e) ∷ digits (postOf e) ∷ digits (stampOf e) ∷ digits (answerOf e) ∷ []
@@ -40,6 +43,7 @@ unfoldable pub eventRecords : ℕ → List (List ℕ) → List (List (List ℕ))
 eventRecords i [] = []
 eventRecords i (e ∷ es) = eventRecord i e ∷ eventRecords (suc i) es
 
+-- all of them, posts from 0 and positions from 1
 unfoldable pub records : Sheet → List (List (List ℕ))
 records t = header ∷ startRecord (t .stamp) ∷ (kindRecords 0 (t .kinds) ++ eventRecords 1 (t .events))
 

@@ -214,9 +214,10 @@ fn a_program_with_wrong_imports_is_found() {
             but_for("import", "head -c 131072 | DESK"),
             "\"right\", 1318951 bytes in pieces of 65536",
         ),
+        // One read, and no more: found at whichever text a read does not take whole.
         (
             but_for("import", "dd bs=131072 count=1 2>/dev/null | DESK"),
-            "import: 3,780 events",
+            "[\"import\"]",
         ),
         // Records counted in 16 bits, or from 0.
         (
