@@ -22,6 +22,7 @@ use Rattle.register.specs.Register.{wrongRecord, isEvents, recordsIn, standIn, 
 use Rattle.register.specs.Texts.{lineEnd}
 use Rattle.register.specs.declared.Mode.the-variants.{Broken}
 use Rattle.register.proofs.Import.{accepted-right}
+use Rattle.register.proofs.Places.{and-false}
 use Rattle.register.proofs.Sheets.{right-writable}
 use Rattle.importing.specs.Importing as importing
 use Rattle.importing.specs.Importing.{refused, imported, importOf, importInto, isDone, recordIn, recordAt, sheetAt, settleOf, settleInto}
@@ -35,10 +36,6 @@ use Rattle.importing.proofs.Kept.{fed-kinds-long, fed-events-long}
 use Rattle.importing.proofs.Outcomes.{of-wrong, of-many, of-short, of-good}
 use Rattle.importing.proofs.Runs.{whole-same, stopped-open, records-few, text-followed}
 use Rattle.importing.proofs.Settled.{not-done, too-many, refused-write, good-write}
-
-and-no : (b : Bool) → (b && false) ≡ false
-and-no true = refl
-and-no false = refl
 
 module _ (t : Sheet) (out : List ℕ) where
   written-good : writeNumber t (length out) ≡ 0 → written t out ≡ encode t ++ drop (bytesFor (length (t .events))) out
@@ -103,7 +100,7 @@ module _ (text : List ℕ) (f : Fed) (out : List ℕ) (kinds : length (f .kinds)
     where
       go : (lexText text .mode ≡ Broken) ⊎ (standIn text < length (recordsIn text)) → (isWhole (lexText text) && (eqb (standIn text) (length (recordsIn text)) && isEvents (after nothing (recordsIn text) .stage))) ≡ false
       go (inl e) = rw e
-      go (inr h) = rw (ne-eqb (standIn text) (length (recordsIn text)) (λ z. omega arith)) (and-no (isWhole (lexText text)))
+      go (inr h) = rw (ne-eqb (standIn text) (length (recordsIn text)) (λ z. omega arith)) (and-false (isWhole (lexText text)))
 
   module _ (o : On (lexText text) f) (few : length (recordsIn text) < mostCounted) where
     done : isDone s ≡ accepts text

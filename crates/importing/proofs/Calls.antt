@@ -21,7 +21,7 @@ use Rattle.register.specs.Register.{exported, RightText}
 use Rattle.register.proofs.Import.{export-right, right-accepted}
 use Rattle.register.proofs.Sheets.{writable-right}
 use Rattle.importing.specs.Importing.{refused, imported, importOf, importInto, Imports, closed, settleOf, settleInto}
-use Rattle.importing.specs.Rooms.{Fed, fedAt, fed}
+use Rattle.importing.specs.Rooms.{Fed, fedAt, fed, fedPieces, joined}
 use Rattle.importing.specs.Steps.{begun}
 use Rattle.importing.specs.declared.Imported.{Imported}
 use Rattle.importing.proofs.Answers.{settled-imports}
@@ -57,14 +57,6 @@ there-and-back s small z r out out′ i l =
     (g .0 ∙ ap imported n, g .1 ∙ rw (n, read-written s small z))
 
 -- ---- in pieces
-unfoldable pub fedPieces : Fed → List (List ℕ) → Fed
-fedPieces f [] = f
-fedPieces f (p ∷ ps) = fedPieces (fed f p) ps
-
-unfoldable pub joined : List (List ℕ) → List ℕ
-joined [] = []
-joined (p ∷ ps) = p ++ joined ps
-
 pub pieces : (f : Fed) (ps : List (List ℕ)) → fedPieces f ps ≡ fed f (joined ps)
 unfolding fedPieces joined fed
 pieces f [] = refl

@@ -16,8 +16,8 @@ use Rattle.sheet.specs.Sheet.{Sheet}
 use Rattle.sheet.specs.Writing.{bytesFor}
 use Rattle.sheet.proofs.Writable.{Writable}
 use Rattle.register.specs.Records.{Right}
-use Rattle.register.specs.Register.{RightText, wrongRecord, accepts, named, sheetIn}
-use Rattle.register.proofs.Import.{accepted-right, right-accepted, Names, named-right, named-one}
+use Rattle.register.specs.Register.{RightText, Names, wrongRecord, accepts, named, sheetIn}
+use Rattle.register.proofs.Import.{accepted-right, right-accepted, named-right, named-one}
 use Rattle.register.proofs.Sheets.{right-writable, writable-right}
 use Rattle.importing.specs.Importing.{refused, imported, importOf}
 use Rattle.importing.specs.declared.Imported.{Imported}

@@ -2,7 +2,7 @@
 -- Assumes nothing.
 use Prim.Native.Nat.{ℕ}
 use mathlib.Core.Path.{_≡_}
-use mathlib.Core.List.{List, [], _∷_}
+use mathlib.Core.List.{List, [], _∷_, _++_}
 use lib.Dec.{eqb}
 use lib.ListN.{set}
 use Rattle.relay.specs.Choice.{pick}
@@ -46,3 +46,14 @@ fed f (b ∷ bs) = fed (fedNext f b) bs
 -- a piece of text is fed
 abbrev pub Feeds : List ℕ → State → State → List ℕ → List ℕ → List (List ℕ) → List (List ℕ) → Type 0
 Feeds text s r ks ks′ es es′ = fedAt r ks′ es′ ≡ fed (fedAt s ks es) text
+
+-- ---- in pieces
+-- pieces of a text, one after the other
+unfoldable pub fedPieces : Fed → List (List ℕ) → Fed
+fedPieces f [] = f
+fedPieces f (p ∷ ps) = fedPieces (fed f p) ps
+
+-- the text that they are pieces of
+unfoldable pub joined : List (List ℕ) → List ℕ
+joined [] = []
+joined (p ∷ ps) = p ++ joined ps

@@ -1,6 +1,6 @@
 -- Import: which texts it accepts, what it makes of them, and which record 28 names. All of it is over right texts: what is read of a text is spelled by it (Spelled), and what spells it is read (Lexes).
 -- Assumes nothing.
-use Prim.Native.Nat.{ℕ, zero, suc, _≤_, _<_}
+use Prim.Native.Nat.{ℕ, zero, suc, _≤_}
 use mathlib.Core.Path.{_≡_, refl, sym, ap, ap₂, _∙_}
 use mathlib.Core.Bool.{Bool, true, false, false≢true}
 use mathlib.Core.List.{List, [], _∷_, _++_, append-assoc, append-nil}
@@ -21,7 +21,7 @@ use Rattle.register.specs.Records.{header, startRecord, kindRecord, even
 use Rattle.register.specs.declared.Stage.{Stage}
 use Rattle.register.specs.declared.Stage.the-variants.{AtHeader, AtStart, AtKinds, AtEvents}
 use Rattle.register.specs.Reading.{Read, nothing, standing, after}
-use Rattle.register.specs.Register.{exported, lastEnd, RightText, Stand, isEvents, recordsIn, standIn, accepts, named, sheetIn}
+use Rattle.register.specs.Register.{exported, lastEnd, RightText, Stand, Names, Begins, isEvents, recordsIn, standIn, accepts, named, sheetIn}
 use Rattle.register.proofs.Spelled.{TidyIn, nothing-spelled, run-tidy, run-spelled}
 use Rattle.register.proofs.Plains.{digits-plain}
 use Rattle.register.proofs.Lexes.{PlainRecord, PlainRecords, run-append, lines-lex, run-grows}
@@ -295,12 +295,6 @@ export-import t right = right-accepted t (exported t) right (export-right t)
 pub stand-iff : (text : List ℕ) (j : ℕ) → (j ≤ standIn text) ↔ Stand j text
 stand-iff text j = (stands-in text j, stands-few text j)
 
--- 28 at the record named: no sheet has this as a right text; the records before it stand in one; with it they stand in none
-pub record Names (k : ℕ) (text : List ℕ) : Type 0 where
-  pub wrong : (t : Sheet) → Right t → RightText t text → ⊥
-  pub before : (j : ℕ) → j < k → Stand j text
-  pub with-it : Stand k text → ⊥
-
 pub named-right : (text : List ℕ) → accepts text ≡ false → Names (named text) text
 named-right text e =
     record {
@@ -324,20 +318,6 @@ right-exported t text w = ap (λ (rs : List Rec). lines (bareAll rs)) (sym (w .s
 -- so is what import accepts
 pub accepted-exported : (text : List ℕ) (e : accepts text ≡ true) → exported (sheetIn text) ≡ lines (bareAll (saidAll (accepted-right text e .1 .rows)))
 accepted-exported text e = right-exported (sheetIn text) text (accepted-right text e .1)
-
--- ---- what a right text begins with
--- the first j records of the text, as they stand there, begin a right text of a right sheet
-pub record Begins (j : ℕ) (text : List ℕ) : Type 0 where
-  pub rows : List Row
-  pub many : length rows ≡ j
-  pub rest : List ℕ
-  pub here : text ++ lineEnd ≡ lines rows ++ rest
-  pub sheet : Sheet
-  pub right : Right sheet
-  pub other : List ℕ
-  pub is-right : RightText sheet other
-  pub more : List ℕ
-  pub there : other ≡ lines rows ++ more
 
 pub stand-begins : (text : List ℕ) (j : ℕ) → Stand j text → Begins j text
 stand-begins text j w =

@@ -35,7 +35,7 @@ fit AtEvents p e f₀ f₁ f₂ f₃ f₄ =
     same f₀ (digits (suc e)) && (numeralBelow 32 f₁ && (numeralBelow 64 f₂ && (numeralBelow (2 ^ 32) f₃ && numeralBelow 32 f₄)))
 
 -- ---- 'and' in another order
-and-false : (x : Bool) → (x && false) ≡ false
+pub and-false : (x : Bool) → (x && false) ≡ false
 and-false true = refl
 and-false false = refl
 

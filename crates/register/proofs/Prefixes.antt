@@ -1,7 +1,7 @@
 -- The records that stand, from the first on: they are the beginning of a right sheet's records, and no more of them are.
 use Prim.Native.Nat.{ℕ, zero, suc, _+_, _^_, _≤_}
 use mathlib.Core.Path.{_≡_, refl, sym, ap, subst, _∙_}
-use mathlib.Core.Bool.{Bool, true, false, _&&_}
+use mathlib.Core.Bool.{true, false}
 use mathlib.Core.List.{List, [], _∷_, _++_, append-assoc, append-nil}
 use native.Mathlib.Omega.{arith}
 use lib.Dec.{ltb}
@@ -13,6 +13,7 @@ use Rattle.register.specs.Records.{header, startRecord, kindRecord, even
 use Rattle.register.specs.declared.Stage.{Stage}
 use Rattle.register.specs.declared.Stage.the-variants.{AtHeader, AtStart, AtKinds, AtEvents}
 use Rattle.register.specs.Reading.{Read, same, alike, wanted, stands, takenAs, taken, standing, after}
+use Rattle.register.proofs.Places.{and-false}
 use Rattle.register.proofs.Tables.{begun, begun-ended}
 use Rattle.register.proofs.Standing.{kinds-snoc, Held, keeps}
 
@@ -104,13 +105,9 @@ standing-few s (r ∷ rs) =
 abbrev pub blank : Rec
 blank = [] ∷ []
 
-and-false : (a b : Bool) → b ≡ false → (a && b) ≡ false
-and-false true b e = e
-and-false false b e = refl
-
 short : (x y : List ℕ) (r : Rec) → alike ([] ∷ []) (x ∷ y ∷ r) ≡ false
 unfolding alike
-short x y r = and-false (same [] x) false refl
+short x y r = and-false (same [] x)
 
 blank-unlike : (g : Stage) (t : Sheet) → alike blank (wanted g t blank) ≡ false
 unfolding wanted startRecord kindRecord eventRecord

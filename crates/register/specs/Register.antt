@@ -1,7 +1,7 @@
 -- The register of a sheet. 02, item 3: 'Export a sheet to text by RFC 4180 [..] Import takes fields quoted or not, and the last line end or none, and gives the sheet back byte for byte.'
 -- Which texts are right, which record of a text cannot stand, and what import makes of any text. That the two agree, for every text, stands in proofs/Import.antt.
 -- Assumes nothing.
-use Prim.Native.Nat.{ℕ, suc}
+use Prim.Native.Nat.{ℕ, suc, _<_}
 use mathlib.Core.Bool.{Bool, true, false, _&&_}
 use mathlib.Core.Path.{_≡_}
 use mathlib.Core.List.{List, [], _++_}
@@ -42,6 +42,25 @@ pub record Stand (j : ℕ) (text : List ℕ) : Type 0 where
   pub many : length rows ≡ j
   pub begins : records sheet ≡ saidAll rows ++ more
   pub spells : text ++ lineEnd ≡ lines rows ++ rest
+
+-- 28 at the record named: no sheet has this as a right text; the records before it stand in one; with it they stand in none
+pub record Names (k : ℕ) (text : List ℕ) : Type 0 where
+  pub wrong : (t : Sheet) → Right t → RightText t text → ⊥
+  pub before : (j : ℕ) → j < k → Stand j text
+  pub with-it : Stand k text → ⊥
+
+-- the first j records of the text, as they stand there, begin a right text of a right sheet
+pub record Begins (j : ℕ) (text : List ℕ) : Type 0 where
+  pub rows : List (List Field)
+  pub many : length rows ≡ j
+  pub rest : List ℕ
+  pub here : text ++ lineEnd ≡ lines rows ++ rest
+  pub sheet : Sheet
+  pub right : Right sheet
+  pub other : List ℕ
+  pub is-right : RightText sheet other
+  pub more : List ℕ
+  pub there : other ≡ lines rows ++ more
 
 -- ---- import
 -- refused: a record of the text cannot stand there, or is missing
