@@ -134,6 +134,14 @@ struct desk_told desk_start(struct desk_post *row, size_t n, const uint32_t *kin
 struct desk_told desk_event(struct desk_post *row, size_t n, struct desk_head head, uint32_t number, uint32_t place,
                             uint32_t stamp);
 
+/*
+ * Whether one block by itself checks: n is 512, and its 128 words, each of four bytes with the lowest first, add up,
+ * carried round at 2^32, to 317944 plus the block's number. Any other n is false, and so is a number from
+ * 2^32 - 317944 on, since no sum carried round comes to that. For block b of a sheet, its bytes from b * 512 on and
+ * the number b, it is the check of which desk_test and desk_read say 19. Writes nothing.
+ */
+bool desk_check(const uint8_t *block, size_t n, uint32_t number);
+
 /* Tests a sheet: 0 and 0, or 18, or 19 or 20 with the first bad block. Writes nothing. */
 struct desk_verdict desk_test(const uint8_t *sheet, size_t n);
 
