@@ -3,6 +3,7 @@
 ghost use mathlib.Core.Path.{_≡_};
 ghost use Rattle.exporting.specs.Exporting.{Exports};
 ghost use Rattle.importing.specs.Importing.{Imports};
+ghost use Rattle.sheet.specs.Check.{checksAlone};
 ghost use Rattle.sheet.specs.Reading.{Reads, verdictOf};
 ghost use Rattle.sheet.specs.Writing.{Writes};
 ghost use Rattle.why.specs.Why.{sinceOf};
@@ -13,6 +14,14 @@ use sheet::Found;
 use sheet::Verdict;
 use why::Since;
 use working::Worked;
+
+// Whether one block by itself checks.
+#[no_mangle]
+pub extern "C" fn desk_check(block: &[u8], number: u32) -> bool
+    ensures { λ r. ⌜ r ≡ checksAlone (now (block .entry)) number ⌝ }
+{
+    sheet::check(block, number)
+}
 
 // Tests a sheet.
 #[no_mangle]

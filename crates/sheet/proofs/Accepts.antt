@@ -14,7 +14,7 @@ use Rattle.relay.proofs.Truth.{and-facts}
 use Rattle.relay.specs.Choice.{pick}
 use Rattle.relay.specs.Kinds.{tableOk}
 use Rattle.sheet.specs.Layout.{blockBytes, blockWords, checkAt, mostBlocks, perBlock}
-use Rattle.sheet.specs.Check.{sum, word, target, checks}
+use Rattle.sheet.specs.Check.{sum, word, target, checksAs, checks}
 use Rattle.sheet.specs.Entry.{upperZero}
 use Rattle.sheet.specs.Reading.{kindsIn, headOk, eventsFit, eventsOk, entriesOk, zeros, contentsOk, lengthOk, blocksIn, verdictOf}
 use Rattle.sheet.proofs.Good.{Good}
@@ -117,7 +117,7 @@ module _ (s : List ℕ) where
   n = blocksIn (length s)
 
   check-is : (b : ℕ) → (checks s b ≡ true) ↔ (sum (word s b) blockWords % 2 ^ 32 ≡ target b)
-  unfolding checks
+  unfolding checksAs
   check-is b = (λ e. eqb-true _ _ e, λ e. eq-eqb _ _ e)
 
   later : (b : ℕ) → 1 ≤ b → GoodBlock s n b → GoodEvents s b (eqb (b + 1) n)

@@ -12,7 +12,7 @@ use borrow.Author.Tests.{eqb-true, ne-eqb}
 use native.Mathlib.Nat.{eq-or-lt-of-le, le-of-suc-le-suc}
 use native.Mathlib.Omega.{arith}
 use Rattle.sheet.specs.Layout.{blockWords, checkWrong}
-use Rattle.sheet.specs.Check.{sum, word, target, checks}
+use Rattle.sheet.specs.Check.{sum, word, target, checksAs, checks}
 use Rattle.sheet.specs.Reading.{lengthOk, blocksIn, verdict, verdictOf}
 use Rattle.sheet.proofs.First.{AllGood, verdict-iff, blocks, bad-check}
 use Rattle.sheet.proofs.Sums.{sum-agree}
@@ -39,7 +39,7 @@ same-word m n x y hx hy e s = omega arith
 -- one word of block b is another: the block does not check
 pub one-word : (s s′ : List ℕ) (b k : ℕ) → k < blockWords → word s b k < 2 ^ 32 → word s′ b k < 2 ^ 32 → word s b k ≢ word s′ b k
     → ((j : ℕ) → j < blockWords → j ≢ k → word s b j ≡ word s′ b j) → checks s b ≡ true → checks s′ b ≡ false
-unfolding checks
+unfolding checksAs
 one-word s s′ b k h small small′ other same good =
     let m = sum (word s b) blockWords in
     let m′ = sum (word s′ b) blockWords in
@@ -49,7 +49,7 @@ one-word s s′ b k h small small′ other same good =
 
 -- the words of block b stand as block c: it does not check
 pub two-places : (s s′ : List ℕ) (b c : ℕ) → b ≢ c → ((k : ℕ) → k < blockWords → word s b k ≡ word s′ c k) → checks s b ≡ true → checks s′ c ≡ false
-unfolding checks
+unfolding checksAs
 two-places s s′ b c other same good =
     let m = sum (word s b) blockWords in
     let e : m % 2 ^ 32 ≡ target b = eqb-true (m % 2 ^ 32) (target b) good in

@@ -1,4 +1,4 @@
--- What the writers of a block store, put together: the words of the layout in their order, zeros to the end of the body, and then the check.
+-- What the writers of a block store, put together: the words of the layout in their order, the zeros at the end of the body among them, and then the check.
 -- Assumes nothing.
 use mathlib.Core.Path.{_≡_, refl, sym, ap, _∙_}
 use Prim.Native.Nat.{ℕ, _+_, _-_, _*_, _%_, _^_, _≤_, _<_}
@@ -15,14 +15,6 @@ use Rattle.sheet.proofs.Puts.{puts-more, puts-agree, puts-on, word-puts
 use Rattle.sheet.proofs.BlockWords.{head-kind, head-zero, events-count, events-word, events-stamp, events-zero, body-is, check-is, body-events}
 
 module _ (t : Sheet) (b : ℕ) (d : List ℕ) where
-  -- the body is stored up to word k, and the rest of it is zero
-  cleared : (k : ℕ) → k ≤ 127 → ((j : ℕ) → k ≤ j → bodyWord t b j ≡ 0)
-      → puts (λ (i : ℕ). 0) (b * 512 + k * 4) (127 - k) (puts (bodyWord t b) (b * 512) k d) ≡ puts (bodyWord t b) (b * 512) 127 d
-  cleared k h z =
-      let e : k + (127 - k) ≡ 127 = omega arith in
-      puts-on (λ (i : ℕ). 0) (bodyWord t b) (b * 512) k (127 - k) d (λ i l. sym (z (k + i) (omega arith)))
-      ∙ ap (λ (n : ℕ). puts (bodyWord t b) (b * 512) n d) e
-
   -- the body is stored, and then the check
   pub checked : b * 512 + 512 ≤ length d → (o : List ℕ) → o ≡ puts (bodyWord t b) (b * 512) 127 d
       → putWord o (b * 512 + 508) (seal (sum (word o b) 127) b) ≡ putBlock t b d
@@ -33,39 +25,34 @@ module _ (t : Sheet) (b : ℕ) (d : List ℕ) where
       (puts-more (sheetWord t b) (b * 512) 127 d)
 
 -- ---- block 0
-module _ (t : Sheet) (d o o′ : List ℕ) where
+module _ (t : Sheet) (d o : List ℕ) where
   three : putWord (putWord (putWord d 0 1) 4 (length (t .kinds))) 8 (t .stamp) ≡ puts (headWord t) 0 3 d
   unfolding puts headWord
   three = refl
 
-  pub head-body : length (t .kinds) ≤ 32
-      → o ≡ puts (λ (j : ℕ). getD (t .kinds) j 0) 12 (length (t .kinds)) (putWord (putWord (putWord d 0 1) 4 (length (t .kinds))) 8 (t .stamp))
-      → o′ ≡ puts (λ (i : ℕ). 0) (0 + (3 + length (t .kinds)) * 4) (127 - (3 + length (t .kinds))) o
-      → o′ ≡ puts (bodyWord t 0) 0 127 d
-  head-body h p q =
-      let n = length (t .kinds) in
-      let e : o ≡ puts (headWord t) 0 (3 + n) d =
-      p ∙ ap (puts (λ (j : ℕ). getD (t .kinds) j 0) 12 n) three ∙ puts-on _ (headWord t) 0 3 n d (λ i l. sym (head-kind t i)) in
-      q ∙ rw e (cleared t 0 d (3 + n) (omega arith) (head-zero t))
+  pub head-body :
+      o ≡ puts (λ (j : ℕ). getD (t .kinds) j 0) 12 124 (putWord (putWord (putWord d 0 1) 4 (length (t .kinds))) 8 (t .stamp))
+      → o ≡ puts (bodyWord t 0) 0 127 d
+  head-body p = p ∙ ap (puts (λ (j : ℕ). getD (t .kinds) j 0) 12 124) three ∙ puts-on _ (headWord t) 0 3 124 d (λ i l. sym (head-kind t i))
 
 -- ---- event block c
 module _ (t : Sheet) (c : ℕ) where
-  -- an event more: its word and its stamp
-  pub entry-more : (at j : ℕ) (d : List ℕ) → j < held (length (t .events)) c
-      → putWord (putWord (puts (λ (k : ℕ). eventsWord t c (1 + k)) (at + 4) (j * 2) d) (at + 4 + j * 8) (entryWord (eventAt t (c * 60 + j)))) (at + 8 + j * 8) (stampOf (eventAt t (c * 60 + j)))
+  -- an event more: its word and its stamp, or zeros past the last one
+  pub pair-more : (at j w v : ℕ) (d : List ℕ) → w ≡ eventsWord t c (1 + j * 2) → v ≡ eventsWord t c (2 + j * 2)
+      → putWord (putWord (puts (λ (k : ℕ). eventsWord t c (1 + k)) (at + 4) (j * 2) d) (at + 4 + j * 8) w) (at + 8 + j * 8) v
       ≡ puts (λ (k : ℕ). eventsWord t c (1 + k)) (at + 4) ((j + 1) * 2) d
-  entry-more at j d h =
+  pair-more at j w v d e f =
       let g : ℕ → ℕ = λ k. eventsWord t c (1 + k) in
       let p : at + 4 + j * 8 ≡ at + 4 + j * 2 * 4 = omega arith in
       let q : at + 8 + j * 8 ≡ at + 4 + (j * 2 + 1) * 4 = omega arith in
       let r : j * 2 + 1 + 1 ≡ (j + 1) * 2 = omega arith in
       let s : 2 + j * 2 ≡ 1 + (j * 2 + 1) = omega arith in
-      rw (p, q, ← events-word t c j h, ← events-stamp t c j h, s)
+      rw (p, q, e, f, s)
       (ap (λ (x : List ℕ). putWord x (at + 4 + (j * 2 + 1) * 4) (g (j * 2 + 1))) (puts-more g (at + 4) (j * 2) d)
       ∙ puts-more g (at + 4) (j * 2 + 1) d
       ∙ ap (λ (n : ℕ). puts g (at + 4) n d) r)
 
-  module _ (d o o′ : List ℕ) where
+  module _ (d o : List ℕ) where
     abbrev m : ℕ
     m = held (length (t .events)) c
 
@@ -77,11 +64,8 @@ module _ (t : Sheet) (c : ℕ) where
     one = let e : at + 0 * 4 ≡ at = omega arith in rw (e, body-events t c 0, events-count t c)
 
     pub events-body :
-        o ≡ puts (λ (k : ℕ). eventsWord t c (1 + k)) (at + 4) (m * 2) (putWord d at m)
-        → o′ ≡ puts (λ (i : ℕ). 0) (at + (1 + m * 2) * 4) (127 - (1 + m * 2)) o
-        → o′ ≡ puts (bodyWord t (c + 1)) at 127 d
-    events-body p q =
-        let e : o ≡ puts (bodyWord t (c + 1)) at (1 + m * 2) d =
-        p ∙ ap (puts (λ (k : ℕ). eventsWord t c (1 + k)) (at + 4) (m * 2)) one
-        ∙ puts-on _ (bodyWord t (c + 1)) at 1 (m * 2) d (λ i l. sym (body-events t c (1 + i))) in
-        q ∙ rw e (cleared t (c + 1) d (1 + m * 2) (omega arith) (λ j l. body-events t c j ∙ events-zero t c j l))
+        o ≡ puts (λ (k : ℕ). eventsWord t c (1 + k)) (at + 4) 126 (putWord d at m)
+        → o ≡ puts (bodyWord t (c + 1)) at 127 d
+    events-body p =
+        p ∙ ap (puts (λ (k : ℕ). eventsWord t c (1 + k)) (at + 4) 126) one
+        ∙ puts-on _ (bodyWord t (c + 1)) at 1 126 d (λ i l. sym (body-events t c (1 + i)))

@@ -9,9 +9,7 @@ ghost use Rattle.sheet.specs.Layout.{blockBytes, mostBlocks};
 use crate::Verdict;
 use crate::entry;
 use crate::layout::BLOCK_BYTES;
-use crate::layout::BLOCK_WORDS;
 use crate::layout::CHECK_AT;
-use crate::layout::CHECK_BASE;
 use crate::layout::CHECK_WRONG;
 use crate::layout::CONTENTS_WRONG;
 use crate::layout::MOST_BYTES;
@@ -112,7 +110,7 @@ pub fn first_bad(s: &[u8], n: u32) -> Verdict
             };
         }
         let at = b as usize * BLOCK_BYTES;
-        if words::sum_words(s, b as usize, BLOCK_WORDS) != CHECK_BASE + b {
+        if !words::checks_as(s, b as usize, b) {
             break 'blocks Verdict {
                 number: CHECK_WRONG,
                 block: b,

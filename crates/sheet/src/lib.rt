@@ -2,6 +2,7 @@
 ghost use mathlib.Core.Path.{_≡_};
 ghost use lib.ListN.{length};
 ghost use Rattle.sheet.specs.Writing.{Writes};
+ghost use Rattle.sheet.specs.Check.{checksAlone};
 ghost use Rattle.sheet.specs.Reading.{verdictOf, refused, verdict, Reads};
 
 mod blocks;
@@ -33,6 +34,16 @@ pub struct Found {
     pub posts: u32,
     pub stamp: u32,
     pub events: u32,
+}
+
+// Whether one block by itself checks, as block `number` of a sheet. Any length but that of a block does not.
+pub fn check(s: &[u8], number: u32) -> bool
+    ensures { λ r. ⌜ r ≡ checksAlone (now (s .entry)) number ⌝ }
+{
+    if s.len() != BLOCK_BYTES {
+        return false;
+    }
+    words::checks_as(s, 0, number)
 }
 
 // Tests a sheet: 0 and 0, or the refusal with the first bad block.

@@ -1,13 +1,13 @@
 // A sheet's blocks, written into lent bytes.
 ghost use mathlib.Core.Path.{_≡_};
 ghost use mathlib.Core.Bool.{true};
-ghost use Prim.Native.Nat.{ℕ, _+_, _-_, _*_, _≤_, _<_};
-ghost use lib.ListN.{length};
+ghost use Prim.Native.Nat.{_+_, _*_, _≤_, _<_};
+ghost use lib.ListN.{length, getD};
 ghost use Rattle.sheet.specs.Words.{putWord};
 ghost use Rattle.sheet.specs.Check.{sum, word, seal};
-ghost use Rattle.sheet.specs.Sheet.{held};
+ghost use Rattle.sheet.specs.Sheet.{held, eventsWord};
 ghost use Rattle.sheet.specs.Writing.{allInFields};
-ghost use Rattle.sheet.specs.Puts.{puts, putBlock, headOnly, eventsOnly};
+ghost use Rattle.sheet.specs.Puts.{putBlock, headOnly, eventsOnly};
 ghost use Rattle.sheet.specs.Layout.{blockBytes, checkAt, mostBlocks, perBlock};
 use crate::entry;
 use crate::layout::BLOCK_BYTES;
@@ -16,6 +16,12 @@ use crate::layout::CHECK_BASE;
 use crate::layout::CHECK_OFFSET;
 use crate::layout::PER_BLOCK;
 use crate::words;
+
+// Two words of an event block: an event's word and its stamp.
+struct Pair {
+    word: u32,
+    stamp: u32,
+}
 
 // Every event is in its fields.
 pub fn all_in_fields(events: &[[u32; 4]]) -> bool
@@ -40,17 +46,27 @@ fn held_in(n: usize, c: usize) -> usize
     if left < PER_BLOCK { left } else { PER_BLOCK }
 }
 
-// Zeros from word `k` up to word 126 of block `b`.
-fn clear(out: &mut [u8], b: usize, k: usize)
-    requires { ⌜ (b < mostBlocks) × ((k ≤ checkAt) × (b * blockBytes + blockBytes ≤ length (now out))) ⌝ }
-    ensures { λ _. ⌜ now (out .exit) ≡ puts (λ (i : ℕ). 0) (b * blockBytes + k * 4) (checkAt - k) (now (out .entry)) ⌝ }
+// Kind `i`, or zero past the table.
+fn kind_or_zero(kinds: &[u32], i: usize) -> u32
+    ensures { λ r. ⌜ r ≡ getD (now (kinds .entry)) i 0 ⌝ }
 {
-    let at = b * BLOCK_BYTES;
-    let mut i = k;
-    while i < CHECK_AT {
-        words::put_word(out, at + i * 4, 0);
-        i += 1;
+    if i < kinds.len() { kinds[i] } else { 0 }
+}
+
+// Words 1 + 2j and 2 + 2j of event block `c`: an event's word and its stamp, or zeros past the last event.
+fn pair_in(events: &[[u32; 4]], c: usize, j: usize) -> Pair
+    requires { ⌜ (c < mostBlocks) × (c * perBlock ≤ length (now events)) ⌝ }
+    requires { ⌜ allInFields (now events) ≡ true ⌝ }
+    ensures { λ r. ⌜ (r .word ≡ eventsWord (eventsOnly (now (events .entry))) c (1 + j * 2)) × (r .stamp ≡ eventsWord (eventsOnly (now (events .entry))) c (2 + j * 2)) ⌝ }
+{
+    if j < held_in(events.len(), c) {
+        let e = events[c * PER_BLOCK + j];
+        return Pair {
+            word: entry::pack(e[0], e[1], e[2]),
+            stamp: e[3],
+        };
     }
+    Pair { word: 0, stamp: 0 }
 }
 
 // Sets word 127 of block `b`, so that the block checks.
@@ -71,16 +87,14 @@ pub fn head(kinds: &[u32], stamp: u32, out: &mut [u8])
     requires { ⌜ (length (now kinds) ≤ 32) × (blockBytes ≤ length (now out)) ⌝ }
     ensures { λ _. ⌜ now (out .exit) ≡ putBlock (headOnly stamp (now (kinds .entry))) 0 (now (out .entry)) ⌝ }
 {
-    let n = kinds.len();
     words::put_word(out, 0, 1);
-    words::put_word(out, 4, n as u32);
+    words::put_word(out, 4, kinds.len() as u32);
     words::put_word(out, 8, stamp);
     let mut i: usize = 0;
-    while i < n {
-        words::put_word(out, 12 + i * 4, kinds[i]);
+    while 3 + i < CHECK_AT {
+        words::put_word(out, 12 + i * 4, kind_or_zero(kinds, i));
         i += 1;
     }
-    clear(out, 0, 3 + n);
     set_check(out, 0);
 }
 
@@ -92,15 +106,13 @@ pub fn events(events: &[[u32; 4]], c: usize, out: &mut [u8])
 {
     let b = c + 1;
     let at = b * BLOCK_BYTES;
-    let m = held_in(events.len(), c);
-    words::put_word(out, at, m as u32);
+    words::put_word(out, at, held_in(events.len(), c) as u32);
     let mut j: usize = 0;
-    while j < m {
-        let e = events[c * PER_BLOCK + j];
-        words::put_word(out, at + 4 + j * 8, entry::pack(e[0], e[1], e[2]));
-        words::put_word(out, at + 8 + j * 8, e[3]);
+    while 1 + j * 2 < CHECK_AT {
+        let p = pair_in(events, c, j);
+        words::put_word(out, at + 4 + j * 8, p.word);
+        words::put_word(out, at + 8 + j * 8, p.stamp);
         j += 1;
     }
-    clear(out, b, 1 + m * 2);
     set_check(out, b);
 }

@@ -3,9 +3,11 @@ ghost use mathlib.Core.Path.{_≡_};
 ghost use Prim.Native.Nat.{_+_, _*_, _≤_, _<_, _%_, _^_};
 ghost use lib.ListN.{length};
 ghost use Rattle.sheet.specs.Words.{le32, wordAt, putWord};
-ghost use Rattle.sheet.specs.Check.{sum, word, seal};
+ghost use Rattle.sheet.specs.Check.{sum, word, checksAs};
 ghost use Rattle.sheet.specs.Layout.{blockBytes, blockWords, mostBlocks};
 use crate::layout::BLOCK_BYTES;
+use crate::layout::BLOCK_WORDS;
+use crate::layout::CHECK_BASE;
 
 // The word of four bytes, the lowest first.
 pub fn word_of(a: u8, b: u8, c: u8, d: u8) -> u32
@@ -46,4 +48,12 @@ pub fn sum_words(s: &[u8], b: usize, n: usize) -> u32
         k += 1;
     }
     total
+}
+
+// Whether the words of the block in place `p` add up to what those of block `b` do.
+pub fn checks_as(s: &[u8], p: usize, b: u32) -> bool
+    requires { ⌜ (p < mostBlocks) × (p * blockBytes + blockBytes ≤ length (now s)) ⌝ }
+    ensures { λ r. ⌜ r ≡ checksAs (now (s .entry)) p b ⌝ }
+{
+    sum_words(s, p, BLOCK_WORDS) as u64 == CHECK_BASE as u64 + b as u64
 }

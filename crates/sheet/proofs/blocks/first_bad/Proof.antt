@@ -5,9 +5,9 @@ use mathlib.Core.Path.{_≡_, refl, sym, ap, _∙_}
 use mathlib.Core.Bool.{Bool, true, false, _&&_}
 use native.Mathlib.Nat.{sub-zero}
 use native.Mathlib.Omega.{arith}
-use borrow.Author.Tests.{eq-eqb, ne-eqb, not-true, not-false}
+use borrow.Author.Tests.{not-true, not-false}
 use Rattle.relay.proofs.Tests.{tests}
-use Rattle.sheet.specs.Check.{word, sum, checks, target}
+use Rattle.sheet.specs.Check.{word, checks}
 use Rattle.sheet.specs.Entry.{upperZero}
 use Rattle.sheet.specs.Reading.{entriesOk, zeros, firstBad, verdict}
 use Rattle.sheet.specs.Shape.{shapeOf}
@@ -35,8 +35,7 @@ abbrev μ-blocks2 : tie.MeasureT-blocks2
 
 -- past the first test the block checks
 checked : (c : tie.Else2 Inv-loop μ-loop Inv-loop2 μ-loop2 Inv-blocks2 μ-blocks2) → checks (c .before .before .before .before .before .args .s .now) (c .before .before .before .blocks2 .b) ≡ true
-unfolding checks
-checked c = eq-eqb _ _ (sym (c .before .sum-words .ensures) ∙ c .if2 .left)
+checked c = sym (c .before .checks-as .ensures) ∙ not-false _ (c .if2 .left)
 
 -- a block that checks and whose contents are wrong is named, with 20
 named : (c : tie.Else2 Inv-loop μ-loop Inv-loop2 μ-loop2 Inv-blocks2 μ-blocks2) → fills (c .before .before .before .before .before .args .s .now) (c .before .before .before .blocks2 .b) (shapeOf (c .before .before .before .before .before .args .s .now) (c .before .before .before .before .before .args .n) (c .before .before .before .blocks2 .b)) ≡ false
@@ -62,15 +61,12 @@ cast-at c = search tests
 mul-at : tie.Need-mul-at Inv-loop μ-loop Inv-loop2 μ-loop2 Inv-blocks2 μ-blocks2
 mul-at c = search tests
 
-cast-sum-words : tie.Need-cast-sum-words Inv-loop μ-loop Inv-loop2 μ-loop2 Inv-blocks2 μ-blocks2
-cast-sum-words c = search tests
+cast-checks-as : tie.Need-cast-checks-as Inv-loop μ-loop Inv-loop2 μ-loop2 Inv-blocks2 μ-blocks2
+cast-checks-as c = search tests
 
-sum-words-requires :
-    tie.Need-sum-words-requires Inv-loop μ-loop Inv-loop2 μ-loop2 Inv-blocks2 μ-blocks2
-sum-words-requires c κs = search tests
-
-add-if2 : tie.Need-add-if2 Inv-loop μ-loop Inv-loop2 μ-loop2 Inv-blocks2 μ-blocks2
-add-if2 c = search tests
+checks-as-requires :
+    tie.Need-checks-as-requires Inv-loop μ-loop Inv-loop2 μ-loop2 Inv-blocks2 μ-blocks2
+checks-as-requires c κs = search tests
 
 shape-of-requires :
     tie.Need-shape-of-requires Inv-loop μ-loop Inv-loop2 μ-loop2 Inv-blocks2 μ-blocks2
@@ -170,11 +166,10 @@ returns c =
     sym (no-more (a .s .now) (a .n) (o .blocks2 .b) (c .if1 .taken)) ∙ o .blocks2 .inv .1
 
 returns-2 : tie.Need-returns-2 Inv-loop μ-loop Inv-loop2 μ-loop2 Inv-blocks2 μ-blocks2
-unfolding checks
 returns-2 c =
     let o = c .before .before .before in
     let a = o .before .before .args in
-    sym (bad-check (a .s .now) (a .n) (o .blocks2 .b) (omega arith) (ne-eqb _ _ (λ e. c .if2 .taken (c .before .sum-words .ensures ∙ e)))) ∙ o .blocks2 .inv .1
+    sym (bad-check (a .s .now) (a .n) (o .blocks2 .b) (omega arith) (sym (c .before .checks-as .ensures) ∙ not-true _ (c .if2 .taken))) ∙ o .blocks2 .inv .1
 
 returns-3 : tie.Need-returns-3 Inv-loop μ-loop Inv-loop2 μ-loop2 Inv-blocks2 μ-blocks2
 returns-3 c = named (c .before .before .before) (rw (← c .before .before .shape-of .ensures, not-true (c .before .before .shape-of .result .ok) (c .if3 .taken)))
@@ -217,9 +212,8 @@ first-bad-spec =
     blocks2-holds
     cast-at
     mul-at
-    cast-sum-words
-    sum-words-requires
-    add-if2
+    cast-checks-as
+    checks-as-requires
     shape-of-requires
     loop-holds
     mul-get-word

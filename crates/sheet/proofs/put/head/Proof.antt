@@ -1,4 +1,4 @@
--- `put::head` meets its contract: three words, the kinds, zeros and the check are block 0 in its order. Assumes nothing.
+-- `put::head` meets its contract: three words, the kinds with zeros past them, and the check are block 0 in its order. Assumes nothing.
 use mathlib.Core.Path.{_≡_, refl, sym, ap, _∙_}
 use mathlib.Core.List.{List}
 use Prim.Native.Nat.{ℕ, _+_, _*_, _-_, _≤_}
@@ -13,10 +13,10 @@ use Rattle.sheet.proofs.put.head.Statement.{statement}
 use Rattle.sheet.proofs.put.head.Tie as tie
 
 abbrev Inv-loop : tie.InvT-loop
-Inv-loop kinds stamp out₀ n i₀ out i = (i ≤ n) × (length out ≡ length out₀) × (out ≡ puts (λ (j : ℕ). getD kinds j 0) 12 i out₀)
+Inv-loop kinds stamp out₀ i₀ out i = (i ≤ 124) × (length out ≡ length out₀) × (out ≡ puts (λ (j : ℕ). getD kinds j 0) 12 i out₀)
 
 abbrev μ-loop : tie.MeasureT-loop
-μ-loop kinds stamp out₀ n i₀ out i = n - i
+μ-loop kinds stamp out₀ i₀ out i = 124 - i
 
 put-word-requires : tie.Need-put-word-requires Inv-loop μ-loop
 put-word-requires c κs = search needs
@@ -33,17 +33,17 @@ put-word-requires-3 c κs = search needs
 loop-holds : tie.Need-loop-holds Inv-loop μ-loop
 loop-holds c = (search needs, refl, sym (puts-none _ _ _))
 
+add-loop : tie.Need-add-loop Inv-loop μ-loop
+add-loop c = search needs
+
 mul-put-word : tie.Need-mul-put-word Inv-loop μ-loop
 mul-put-word c = search needs
 
 add-put-word : tie.Need-add-put-word Inv-loop μ-loop
 add-put-word c = search needs
 
-mul-put-word-2 : tie.Need-mul-put-word-2 Inv-loop μ-loop
-mul-put-word-2 c = search needs
-
-shared-slice-read-put-word : tie.Need-shared-slice-read-put-word Inv-loop μ-loop
-shared-slice-read-put-word c = search needs
+kind-or-zero-requires : tie.Need-kind-or-zero-requires Inv-loop μ-loop
+kind-or-zero-requires c κs = search needs
 
 put-word-requires-4 : tie.Need-put-word-requires-4 Inv-loop μ-loop
 put-word-requires-4 c κs = search needs
@@ -56,17 +56,12 @@ loop-less c = search needs
 
 loop-again : tie.Need-loop-again Inv-loop μ-loop
 loop-again c =
-    let l = c .before .before .before .before .before .before in
-    let p = c .before .before .put-word4 in
+    let p = c .before .before in
+    let k = p .before in
+    let l = k .before .before .before in
     let ks = l .before .before .before .before .before .before .before .before .before .before .before .before .before .before .before .args .kinds .now in
     let i = l .loop .i in
-    (search needs, p .kept .0 ∙ l .loop .inv .1, p .ensures ∙ ap (λ (o : List ℕ). putWord o (12 + i * 4) (getD ks i 0)) (l .loop .inv .2) ∙ puts-more (λ (j : ℕ). getD ks j 0) 12 i _)
-
-add-clear : tie.Need-add-clear Inv-loop μ-loop
-add-clear c = search needs
-
-clear-requires : tie.Need-clear-requires Inv-loop μ-loop
-clear-requires c κs = search needs
+    (search needs, p .put-word4 .kept .0 ∙ l .loop .inv .1, p .put-word4 .ensures ∙ rw (k .kind-or-zero .ensures, l .loop .inv .2) (puts-more (λ (j : ℕ). getD ks j 0) 12 i _))
 
 set-check-requires : tie.Need-set-check-requires Inv-loop μ-loop
 set-check-requires c κs = search needs
@@ -77,19 +72,17 @@ same-length c = search needs
 returns : tie.Need-returns Inv-loop μ-loop
 returns c =
     let s = c .before .before in
-    let z = s .before .before .before .before in
-    let l = z .before .before .before in
+    let l = s .before .before .before in
     let w₃ = l .before .before .before in
     let w₂ = w₃ .before .before .before .before in
     let w₁ = w₂ .before .before .before .before in
     let u = w₁ .before .before .before .before in
     let t = headOnly (u .args .stamp) (u .args .kinds .now) in
     let d = u .args .out .now in
-    let n : l .loop .i ≡ length (t .kinds) = omega arith in
+    let n : l .loop .i ≡ 124 = omega arith in
     let three : w₃ .put-word3 .last .0 ≡ putWord (putWord (putWord d 0 1) 4 (length (t .kinds))) 8 (t .stamp) =
     w₃ .put-word3 .ensures ∙ rw (w₂ .put-word2 .ensures, w₁ .put-word .ensures) in
-    let body = head-body t d (l .loop .out) (z .clear .last .0) (omega arith) (l .loop .inv .2 ∙ rw (n, three)) (z .clear .ensures) in
-    s .set-check .ensures ∙ checked t 0 d (omega arith) (z .clear .last .0) body
+    s .set-check .ensures ∙ checked t 0 d (omega arith) (l .loop .out) (head-body t d (l .loop .out) (l .loop .inv .2 ∙ rw (n, three)))
 
 pub head-spec : {M : Type 1} → statement M
 head-spec =
@@ -102,16 +95,14 @@ head-spec =
     put-word-requires-2
     put-word-requires-3
     loop-holds
+    add-loop
     mul-put-word
     add-put-word
-    mul-put-word-2
-    shared-slice-read-put-word
+    kind-or-zero-requires
     put-word-requires-4
     add-i
     loop-less
     loop-again
-    add-clear
-    clear-requires
     set-check-requires
     same-length
     returns)
