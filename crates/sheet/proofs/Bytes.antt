@@ -6,7 +6,7 @@ use Prim.Native.Nat.{ℕ, zero, suc, _+_, _*_, _/_, _%_, _^_, _≤_, _<_}
 use mathlib.Core.List.{List, [], _∷_, _++_, append-nil}
 use lib.ListN.{length, getD, set, take, drop, length-set, length-append, length-drop, drop-of-length-le}
 use lib.Pow.{shr-shr}
-use lib.Seq.{set-getD, getD-set-same, getD-set-other, sets-eq, take-at, drop-drop, drop-append-add, getD-drop}
+use lib.Seq.{set-getD, getD-set-same, getD-set-other, sets-eq, take-at, drop-drop, drop-append-add, getD-drop, getD-take}
 use native.Mathlib.Nat.{add-zero, add-assoc, div-add-mod'}
 use native.Mathlib.Numerals.{add-one}
 use native.Mathlib.Omega.{arith}
@@ -115,9 +115,15 @@ bytes-append [] b = refl
 bytes-append (w ∷ a) b = rw (bytes-append a b)
 
 -- a word of what is left past the first n bytes
-word-drop : (s : List ℕ) (n i : ℕ) → wordAt (drop n s) i ≡ wordAt s (n + i)
+pub word-drop : (s : List ℕ) (n i : ℕ) → wordAt (drop n s) i ≡ wordAt s (n + i)
 unfolding wordAt
 word-drop s n i = simp (getD-drop, add-assoc)
+
+-- and of the first n bytes
+pub word-take : (s : List ℕ) (n i : ℕ) → i + 4 ≤ n → wordAt (take n s) i ≡ wordAt s i
+unfolding wordAt
+word-take s n i h =
+    rw (getD-take n s i 0 (omega arith), getD-take n s (i + 1) 0 (omega arith), getD-take n s (i + 2) 0 (omega arith), getD-take n s (i + 3) 0 (omega arith))
 
 -- the words come back
 pub word-bytes : (ws : List ℕ) (i : ℕ) → i < length ws → getD ws i 0 < 2 ^ 32 → wordAt (bytes ws) (i * 4) ≡ getD ws i 0

@@ -1,4 +1,5 @@
 pub mod Accepts
+pub mod Alone
 pub mod AnyRoom
 pub mod BlockWords
 pub mod Bytes

@@ -2,13 +2,19 @@
 -- Assumes nothing.
 use Prim.Native.Nat.{ℕ}
 use mathlib.Core.Path.{_≡_, sym, ap, _∙_}
+use mathlib.Core.Bool.{Bool}
 use mathlib.Core.List.{List}
 use lib.ListN.{length}
+use Rattle.sheet.specs.Check.{checksAlone}
 use Rattle.sheet.specs.Sheet.{Sheet}
 use Rattle.sheet.specs.Reading.{verdictOf, decode, handed, Reads}
 use Rattle.sheet.specs.Writing.{Writes}
 use Rattle.sheet.specs.declared.Found.{Found}
 use Rattle.sheet.specs.declared.Verdict.{Verdict}
+
+-- `check`
+pub check-one : (t : List ℕ) (b : ℕ) (r r′ : Bool) → r ≡ checksAlone t b → r′ ≡ checksAlone t b → r ≡ r′
+check-one t b r r′ p q = p ∙ sym q
 
 -- `test`
 pub test-one : (s : List ℕ) (r r′ : Verdict) → r ≡ verdictOf s → r′ ≡ verdictOf s → r ≡ r′

@@ -1,13 +1,14 @@
 -- The paper's check words, and the order of a word's bytes: computed whole.
 -- Assumes nothing.
 use mathlib.Core.Path.{_≡_, refl}
+use mathlib.Core.Bool.{true, false}
 use mathlib.Core.List.{[], _∷_}
-use Rattle.sheet.specs.Check.{sum, seal}
+use Rattle.sheet.specs.Check.{sum, checksAs, checksAlone, blockOf, seal}
 use Rattle.sheet.specs.Entry.{packed}
 use Rattle.sheet.specs.Examples.{twoBlocks}
 use Rattle.sheet.specs.Layout.{checkAt}
-use Rattle.sheet.specs.Sheet.{headWord, eventsWord, sheetWord}
-use Rattle.sheet.specs.Words.{bytes}
+use Rattle.sheet.specs.Sheet.{headWord, eventsWord, sheetWord, encode}
+use Rattle.sheet.specs.Words.{wordAt, bytes, tab}
 
 -- the check words of block 0 and of the block after it
 pub check-words : (sheetWord twoBlocks 0 checkAt ≡ 317940) × (sheetWord twoBlocks 1 checkAt ≡ 253455)
@@ -18,3 +19,12 @@ check-words = (refl, refl)
 pub lowest-first : bytes (1 ∷ 1000 ∷ 67305985 ∷ []) ≡ 1 ∷ 0 ∷ 0 ∷ 0 ∷ 232 ∷ 3 ∷ 0 ∷ 0 ∷ 1 ∷ 2 ∷ 3 ∷ 4 ∷ []
 unfolding bytes
 lowest-first = refl
+
+-- the paper's two blocks by themselves, each as its own number and not as the other's
+pub blocks-alone :
+    (checksAlone (blockOf (encode twoBlocks) 0) 0 ≡ true)
+    × (checksAlone (blockOf (encode twoBlocks) 0) 1 ≡ false)
+    × (checksAlone (blockOf (encode twoBlocks) 1) 1 ≡ true)
+    × (checksAlone (blockOf (encode twoBlocks) 1) 0 ≡ false)
+unfolding checksAlone checksAs encode sheetWord headWord eventsWord packed sum seal bytes tab wordAt
+blocks-alone = (refl, refl, refl, refl)

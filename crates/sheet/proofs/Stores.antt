@@ -1,18 +1,17 @@
 -- What the writers of a block store, put together: the words of the layout in their order, the zeros at the end of the body among them, and then the check.
 -- Assumes nothing.
 use mathlib.Core.Path.{_≡_, refl, sym, ap, _∙_}
-use Prim.Native.Nat.{ℕ, _+_, _-_, _*_, _%_, _^_, _≤_, _<_}
+use Prim.Native.Nat.{ℕ, _+_, _*_, _%_, _^_, _≤_}
 use mathlib.Core.List.{List}
 use lib.ListN.{length, getD}
 use native.Mathlib.Omega.{arith}
 use Rattle.sheet.specs.Words.{putWord}
 use Rattle.sheet.specs.Check.{sum, word, seal}
-use Rattle.sheet.specs.Entry.{entryWord, stampOf}
-use Rattle.sheet.specs.Sheet.{Sheet, eventAt, held, headWord, eventsWord, bodyWord, sheetWord}
+use Rattle.sheet.specs.Sheet.{Sheet, held, headWord, eventsWord, bodyWord, sheetWord}
 use Rattle.sheet.specs.Puts.{puts, putBlock}
 use Rattle.sheet.proofs.Sums.{sum-round, seal-round}
 use Rattle.sheet.proofs.Puts.{puts-more, puts-agree, puts-on, word-puts}
-use Rattle.sheet.proofs.BlockWords.{head-kind, head-zero, events-count, events-word, events-stamp, events-zero, body-is, check-is, body-events}
+use Rattle.sheet.proofs.BlockWords.{head-kind, events-count, body-is, check-is, body-events}
 
 module _ (t : Sheet) (b : ℕ) (d : List ℕ) where
   -- the body is stored, and then the check

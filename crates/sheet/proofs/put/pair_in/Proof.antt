@@ -1,5 +1,5 @@
 -- `put::pair_in` meets its contract: up to the last event its word and stamp, and zeros past it. Assumes nothing.
-use mathlib.Core.Path.{_≡_, sym, _∙_}
+use mathlib.Core.Path.{sym, _∙_}
 use Prim.Native.Nat.{_+_, _*_, _≤_, _<_}
 use lib.ListN.{length}
 use native.Mathlib.Omega.{arith}
