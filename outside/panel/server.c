@@ -13,6 +13,7 @@
  *     8 WHY    bytes position, bytes                          -> number block position
  *     9 EXPORT bytes room fill, bytes                         -> number block bytes, room bytes
  *    10 IMPORT bytes room fill, bytes                         -> number record bytes, room bytes
+ *    11 CHECK  bytes number, bytes                            -> 0 or 1, the bytes
  * `fill` is what a lent room holds before the call. The record and the bytes that 9 and 10 return are of 64 bits each:
  * two words, the lower one first.
  *
@@ -300,6 +301,19 @@ static void event(void)
     give_told(desk_event(row, n, head, number, place, stamp), row, n);
 }
 
+/* Each block by itself has the check that desk_test found, up to the block that it names. */
+static void agree(const uint8_t *sheet, size_t n, struct desk_verdict verdict)
+{
+    for (size_t b = 0; verdict.number != 18 && b < n / DESK_BLOCK; b++) {
+        bool named = verdict.number != 0 && b == verdict.block;
+
+        if (desk_check(sheet + b * DESK_BLOCK, DESK_BLOCK, (uint32_t)b) == (named && verdict.number == 19))
+            fail("desk_test and desk_check disagree");
+        if (named)
+            return;
+    }
+}
+
 static void read_sheet(void)
 {
     size_t n = count(MOST_BYTES), k = count(MOST_POSTS), m = count(MOST_ENTRIES);
@@ -316,6 +330,7 @@ static void read_sheet(void)
         for (size_t j = 0; j < 4; j++)
             entries[i][j] = fill;
     found = desk_read(sheet, n, kinds, k, entries, m);
+    agree(sheet, n, verdict);
     same(&sheet_area);
     canary(&kinds_area);
     canary(&entries_area);
@@ -405,6 +420,34 @@ static void import_text(void)
     give_bytes(out, room);
 }
 
+/* The same call so many bytes before the end of memory: no word of the block lies at a word's place. */
+static bool check_before(const uint8_t *block, size_t n, uint32_t number, size_t bytes)
+{
+    uint8_t *at = lend_out(n + bytes, CANARY_BYTE);
+    bool checks;
+
+    memcpy(at, block, n);
+    keep(&out_area);
+    checks = desk_check(at, n, number);
+    same(&out_area);
+    return checks;
+}
+
+static void check(void)
+{
+    size_t n = count(MOST_BYTES - 3);
+    uint32_t number = word();
+    uint8_t *block = lend_sheet(n);
+    bool checks = desk_check(block, n, number);
+
+    same(&sheet_area);
+    for (size_t bytes = 1; bytes < 4; bytes++)
+        if (check_before(block, n, number, bytes) != checks)
+            fail("desk_check depends on where the block lies");
+    give_word(checks);
+    give_bytes(block, n);
+}
+
 static void run(void)
 {
     size_t n = count(MOST_POSTS);
@@ -462,7 +505,7 @@ static int guards(void)
 int main(int words, char **word_at)
 {
     static void (*const calls[])(void) = {start, valid, event, read_sheet, write_sheet, work, run, why,
-                                          export_sheet, import_text};
+                                          export_sheet, import_text, check};
 
     make(&row_area);
     make(&kinds_area);

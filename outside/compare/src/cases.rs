@@ -5,7 +5,8 @@ use crate::random::Random;
 use crate::request::{Reply, Request};
 use crate::variety::Variety;
 use crate::{
-    full, histories, long_texts, misprints, questions, rooms, rows, spoiled, starts, texts, writes,
+    checks, full, histories, long_texts, misprints, questions, rooms, rows, spoiled, starts, texts,
+    writes,
 };
 
 /// A sort of cases. Its varieties take turns, so that each has its share.
@@ -81,37 +82,51 @@ pub fn sorts() -> Vec<Sort> {
         numbered("cut-texts", texts::cut_names(), texts::cut),
         each("long-texts", long_texts::LONG),
         numbered("exporting", rooms::output_names(), rooms::exporting),
+        each("blocks", checks::BLOCKS),
     ]
 }
 
 /// Each sort's share, in the order of `sorts`.
-pub fn shares(wanted: Wanted) -> [u64; 17] {
-    let Wanted {
-        events,
-        rows,
-        sheets,
-        questions,
-        texts,
-    } = wanted;
-    [
-        events * 6 / 10,
-        events * 2 / 10,
-        events.div_ceil(5),
-        rows,
-        rows / 10,
-        rows / 10,
-        sheets / 2,
-        sheets.div_ceil(2),
-        sheets / 4,
-        sheets / 200,
-        questions,
-        texts / 4,
-        texts * 4 / 10,
-        texts / 4,
-        texts.div_ceil(10),
-        texts / 1000,
-        texts / 4,
-    ]
+pub struct Shares(pub [u64; 18]);
+
+/// What is wanted, and no single blocks.
+impl From<Wanted> for Shares {
+    fn from(wanted: Wanted) -> Shares {
+        wanted.and_blocks(0)
+    }
+}
+
+impl Wanted {
+    /// The shares of all this, and of so many single blocks.
+    pub fn and_blocks(self, blocks: u64) -> Shares {
+        let Wanted {
+            events,
+            rows,
+            sheets,
+            questions,
+            texts,
+        } = self;
+        Shares([
+            events * 6 / 10,
+            events * 2 / 10,
+            events.div_ceil(5),
+            rows,
+            rows / 10,
+            rows / 10,
+            sheets / 2,
+            sheets.div_ceil(2),
+            sheets / 4,
+            sheets / 200,
+            questions,
+            texts / 4,
+            texts * 4 / 10,
+            texts / 4,
+            texts.div_ceil(10),
+            texts / 1000,
+            texts / 4,
+            blocks,
+        ])
+    }
 }
 
 /// The case of this sort and index, from the seed alone.

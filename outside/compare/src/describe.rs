@@ -2,6 +2,7 @@
 
 use model::Post;
 
+use crate::checks::plain_sum;
 use crate::request::{post_words, Request, POST_WORDS};
 
 const FIELDS: [&str; POST_WORDS] = [
@@ -52,6 +53,7 @@ impl Request {
                 named(front, at, out_bytes)
             }
             Request::Import { .. } => named(IMPORTED, at, out_bytes),
+            Request::Check { .. } => named(&["checks"], at, block_word),
             Request::Run { kinds, steps, .. } => {
                 let (turn, rest) = split(at, 3 + kinds.len() * POST_WORDS);
                 let name = named(TOLD, rest, record_word);
@@ -123,6 +125,10 @@ impl Request {
                 let (bytes, start) = (text.len(), text_start(text));
                 format!("importing {bytes} bytes into {out_len} bytes:\n{start}")
             }
+            Request::Check { block, number } => {
+                let (bytes, sum) = (block.len(), plain_sum(block));
+                format!("check of {bytes} bytes as block {number}; their words add up to {sum:#x}")
+            }
             _ => String::new(),
         }
     }
@@ -167,6 +173,10 @@ fn read_word(kinds_room: usize, at: usize) -> String {
 
 fn out_bytes(at: usize) -> String {
     format!("output bytes {} to {}", 4 * at, 4 * at + 3)
+}
+
+fn block_word(at: usize) -> String {
+    format!("word {at} of the block")
 }
 
 fn row_text(row: &[Post]) -> String {

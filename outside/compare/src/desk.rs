@@ -47,6 +47,11 @@ pub trait Desk {
     fn import(&mut self, text: &[u8], out: &mut [u8]) -> Imported {
         model::import(text, out)
     }
+
+    /// The block may be written to here, so that a wrong desk can do that too.
+    fn check(&mut self, block: &mut [u8], number: u32) -> bool {
+        model::check(block, number)
+    }
 }
 
 /// The model as it stands.
@@ -128,6 +133,11 @@ fn sheet_reply(desk: &mut dyn Desk, request: &Request) -> Reply {
             [vec![number], padded(&out)].concat()
         }
         Request::Why { sheet, position } => since_words(desk.why(sheet, *position)),
+        Request::Check { block, number } => {
+            let mut block = block.clone();
+            let checks = desk.check(&mut block, *number);
+            [vec![u32::from(checks)], padded(&block)].concat()
+        }
         _ => register_reply(desk, request),
     }
 }

@@ -3,6 +3,8 @@
 pub mod alterations;
 pub mod buttons;
 pub mod cases;
+pub mod checked;
+pub mod checks;
 pub mod child;
 pub mod counts;
 pub mod damage;

@@ -1,4 +1,4 @@
-//! compare [--seed S] [--events N] [--rows N] [--sheets N] [--questions N] [--texts N] [--only CASE] -- CMD ARGS..
+//! compare [--seed S] [--events N] [--rows N] [--sheets N] [--questions N] [--texts N] [--blocks N] [--only CASE] -- CMD ARGS..
 //! compare --desk [--seed S] [--sheets N] [--only CASE] -- CMD ARGS..
 //! The words of the working program are put behind CMD ARGS.
 
@@ -11,7 +11,7 @@ use compare::program::{compare_program, only_program};
 use compare::run::{compare, named_case, only, Difference};
 
 const USAGE: &str = "compare [--desk] [--seed S] [--events N] [--rows N] [--sheets N] \
-    [--questions N] [--texts N] [--only CASE] -- CMD ARGS..";
+    [--questions N] [--texts N] [--blocks N] [--only CASE] -- CMD ARGS..";
 
 const FIXED_SEED: u64 = 317_944;
 
@@ -23,6 +23,7 @@ struct Options {
     sheets: Option<u64>,
     questions: u64,
     texts: u64,
+    blocks: u64,
     only: Option<String>,
     command: Vec<String>,
 }
@@ -37,6 +38,7 @@ impl Default for Options {
             sheets: None,
             questions: 20_000,
             texts: 200_000,
+            blocks: 50_000,
             only: None,
             command: Vec::new(),
         }
@@ -68,6 +70,7 @@ fn options(mut arguments: impl Iterator<Item = String>) -> Result<Options, Strin
             "--sheets" => options.sheets = Some(number()?),
             "--questions" => options.questions = number()?,
             "--texts" => options.texts = number()?,
+            "--blocks" => options.blocks = number()?,
             "--only" => options.only = Some(value),
             _ => return Err(USAGE.to_string()),
         }
@@ -113,7 +116,8 @@ fn run_library(options: &Options) -> Result<(), String> {
         questions: options.questions,
         texts: options.texts,
     };
-    let tally = compare(&sorts, seed, wanted, &mut library).map_err(told)?;
+    let shares = wanted.and_blocks(options.blocks);
+    let tally = compare(&sorts, seed, shares, &mut library).map_err(told)?;
     library.finish()?;
     print!("{}", tally.text(&sorts));
     let missing = tally.missing(&sorts);

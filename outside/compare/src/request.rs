@@ -63,6 +63,10 @@ pub enum Request {
         out_len: usize,
         fill: u8,
     },
+    Check {
+        block: Vec<u8>,
+        number: u32,
+    },
 }
 
 impl Request {
@@ -121,6 +125,9 @@ impl Request {
             Request::Why { sheet, position } => {
                 joined(&[8, size(sheet.len()), *position], &[&padded(sheet)])
             }
+            Request::Check { block, number } => {
+                joined(&[11, size(block.len()), *number], &[&padded(block)])
+            }
             _ => self.made_words(),
         }
     }
@@ -175,6 +182,7 @@ impl Request {
             Request::Why { .. } => 3,
             Request::Export { out_len, .. } => 4 + out_len.div_ceil(4),
             Request::Import { out_len, .. } => 5 + out_len.div_ceil(4),
+            Request::Check { block, .. } => 1 + block.len().div_ceil(4),
         }
     }
 }

@@ -3,7 +3,7 @@
 use std::sync::mpsc::{sync_channel, SyncSender};
 use std::thread;
 
-use crate::cases::{case, each_case, shares, Case, Sort, Wanted};
+use crate::cases::{case, each_case, Case, Shares, Sort};
 use crate::desk::Library;
 use crate::request::{Reply, Request};
 use crate::tally::Tally;
@@ -41,6 +41,7 @@ impl Batch {
             | Request::Export { sheet, .. }
             | Request::Why { sheet, .. } => sheet.len() / 4,
             Request::Import { text, .. } => text.len() / 4,
+            Request::Check { block, .. } => block.len() / 4,
             Request::Write { events, .. } => 4 * events.len(),
             _ => 0,
         };
@@ -59,22 +60,22 @@ impl Batch {
 pub fn compare(
     sorts: &[Sort],
     seed: u64,
-    wanted: Wanted,
+    shares: impl Into<Shares>,
     library: &mut dyn Library,
 ) -> Result<Tally, Difference> {
     let names: Vec<&str> = sorts.iter().map(|sort| sort.name).collect();
-    compare_sorts(sorts, seed, wanted, &names, library)
+    compare_sorts(sorts, seed, shares, &names, library)
 }
 
 /// The same on the cases of these sorts alone.
 pub fn compare_sorts(
     sorts: &[Sort],
     seed: u64,
-    wanted: Wanted,
+    shares: impl Into<Shares>,
     names: &[&str],
     library: &mut dyn Library,
 ) -> Result<Tally, Difference> {
-    let mut shares = shares(wanted);
+    let Shares(mut shares) = shares.into();
     for (share, sort) in shares.iter_mut().zip(sorts) {
         *share *= u64::from(names.contains(&sort.name));
     }

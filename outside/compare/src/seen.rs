@@ -8,7 +8,8 @@ use crate::counts::Wanted;
 use crate::questions::{OF_JAMS, TOLD};
 use crate::sheets::Sheet;
 
-/// Each of `SEEN` is wanted at least once in so many questions; so it is with texts.
+/// Each of `SEEN` is wanted at least once in so many questions; so it is with texts and
+/// with single blocks.
 pub const RARELY: u64 = 100;
 
 pub const SEEN: &[Wanted<Question>] = &[

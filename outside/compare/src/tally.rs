@@ -3,6 +3,7 @@
 use std::fmt::Write;
 
 use crate::cases::{Case, Sort, ALTERED_ROWS};
+use crate::checked::{Checked, CHECKED};
 use crate::counts::Counts;
 use crate::moments::{Altered, Moment, ALTERED, MOMENTS};
 use crate::registers::{Export, Import, EXPORTS, IMPORTS, LONG, LONG_FROM};
@@ -43,6 +44,7 @@ pub struct Tally {
     pub imports: Counts<Import>,
     pub long: Counts<Import>,
     pub exports: Counts<Export>,
+    pub blocks: Counts<Checked>,
 }
 
 impl Tally {
@@ -59,6 +61,7 @@ impl Tally {
             imports: Counts::new("texts", IMPORTS),
             long: Counts::new("long texts", LONG),
             exports: Counts::new("exports", EXPORTS),
+            blocks: Counts::new("single blocks", CHECKED),
         }
     }
 
@@ -70,17 +73,17 @@ impl Tally {
                 self.events[case.sort] += steps.len() as u64;
                 self.add_history(kinds, steps, &case.expected);
             }
-            Request::Valid { .. } => {}
+            Request::Valid { .. } | Request::Check { .. } => {}
             _ => self.answers[first as usize] += 1,
         }
-        self.add_seen(case);
+        self.add_seen(case, &sorts[case.sort].varieties[case.variety]);
         if sorts[case.sort].name == ALTERED_ROWS {
             self.add_altered(&case.request, first);
         }
     }
 
-    /// What is counted of a question, an import and an export.
-    fn add_seen(&mut self, case: &Case) {
+    /// What is counted of a question, an import, an export and a single block.
+    fn add_seen(&mut self, case: &Case, variety: &str) {
         let expected = &case.expected;
         match &case.request {
             Request::Why { sheet, position } => {
@@ -96,6 +99,10 @@ impl Tally {
             }
             Request::Export { sheet, out_len, .. } => {
                 self.exports.add(&Export::new(sheet, *out_len, expected));
+            }
+            Request::Check { block, number } => {
+                let checked = Checked::new(variety, block, *number, expected);
+                self.blocks.add(&checked);
             }
             _ => {}
         }
@@ -159,6 +166,7 @@ impl Tally {
         lines.extend(self.imports.rare(RARELY));
         lines.extend(self.long.rare(RARELY));
         lines.extend(self.exports.rare(RARELY));
+        lines.extend(self.blocks.rare(RARELY));
         lines
     }
 
@@ -197,6 +205,7 @@ impl Tally {
             self.imports.text(),
             self.long.text(),
             self.exports.text(),
+            self.blocks.text(),
         ] {
             text.push_str(&counts);
         }

@@ -5,6 +5,7 @@ mod common;
 
 use common::{must_differ, refused, right, small_run, Events};
 use compare::cases::{sorts, Wanted};
+use compare::checked::CHECKED;
 use compare::desk::{Desk, InProcess, Model};
 use compare::moments::{ALTERED, MOMENTS};
 use compare::registers::{EXPORTS, IMPORTS, LONG};
@@ -40,6 +41,7 @@ fn what_does_not_come_up_is_missed() {
     assert_eq!(lines("texts, "), IMPORTS.len());
     assert_eq!(lines("long texts, "), LONG.len());
     assert_eq!(lines("exports, "), EXPORTS.len());
+    assert_eq!(lines("single blocks, "), CHECKED.len());
     assert_eq!(lines("events in histories, "), MOMENTS.len());
     assert_eq!(lines("altered rows, "), ALTERED.len());
     assert_eq!(lines("answer "), 26);
@@ -58,7 +60,8 @@ fn the_model_passes_a_whole_run() {
         texts: 200_000,
     };
     let began = std::time::Instant::now();
-    let run = compare(&sorts(), 317_944, wanted, &mut InProcess(Model));
+    let shares = wanted.and_blocks(50_000);
+    let run = compare(&sorts(), 317_944, shares, &mut InProcess(Model));
     let tally = run.unwrap_or_else(|d| panic!("{}: {}", d.name, d.text));
     println!("{}{:?}", tally.text(&sorts()), began.elapsed());
     assert_eq!(tally.missing(&sorts()), Vec::<String>::new());

@@ -147,6 +147,7 @@ mod c {
             place: u32,
             stamp: u32,
         ) -> Told;
+        pub fn desk_check(block: *const u8, n: usize, number: u32) -> bool;
         pub fn desk_test(sheet: *const u8, n: usize) -> Verdict;
         pub fn desk_read(
             sheet: *const u8,
@@ -199,6 +200,12 @@ pub fn start(row: &mut [Post], kinds: &[u32], stamp: u32) -> Told {
 pub fn event(row: &mut [Post], head: Head, number: u32, place: u32, stamp: u32) -> Told {
     // SAFETY: see above.
     unsafe { c::desk_event(row.as_mut_ptr(), row.len(), head, number, place, stamp) }
+}
+
+/// Whether one block by itself checks: 512 bytes whose words add up, carried round, to 317944 plus its number.
+pub fn check(block: &[u8], number: u32) -> bool {
+    // SAFETY: see above.
+    unsafe { c::desk_check(block.as_ptr(), block.len(), number) }
 }
 
 /// Tests a sheet.

@@ -1,8 +1,8 @@
 //! Each call once through the wrapper: that pointers, counts and returned structs meet the C calling convention.
 use desk::relay::{AN, JAM, RL, W241, W314};
 use desk::{
-    event, export, import, read, start, test, valid, why, work, write, Exported, Head, Imported,
-    Post, Since, Verdict, SHEET, TEXT,
+    check, event, export, import, read, start, test, valid, why, work, write, Exported, Head,
+    Imported, Post, Since, Verdict, SHEET, TEXT,
 };
 use model::paper::{answered, unanswered, KINDS, REGISTER};
 use model::stuck;
@@ -88,6 +88,7 @@ fn empty_slices() {
     assert_eq!((told.answer, told.head), (1, Head::default()));
     assert!(!valid(&[], Head::default()));
     assert_eq!(test(&[]).number, 18);
+    assert!(!check(&[], 0));
     assert_eq!(work(&[], &mut []).number, 18);
     assert_eq!(write(&KINDS, 0, &[], &mut []), 21);
     assert_eq!(read(&[], &mut [], &mut []).number, 18);
@@ -128,6 +129,26 @@ fn a_bad_block_is_named() {
             block: 1
         }
     );
+}
+
+#[test]
+fn a_block_by_itself() {
+    let mut sheet = [0; 1025];
+    write(&KINDS, 0, &unanswered(), &mut sheet);
+    assert!(check(&sheet[..512], 0) && check(&sheet[512..1024], 1));
+    assert!(!check(&sheet[..512], 1) && !check(&sheet[512..1024], 0));
+    for length in [0, 1, 508, 511, 513, 1024] {
+        assert!(!check(&sheet[..length], 0), "{length} bytes");
+    }
+    // At another place, not that of a word.
+    sheet.copy_within(..512, 3);
+    assert!(check(&sheet[3..515], 0));
+    // The largest number: all words but one are zero.
+    let largest = u32::MAX - 317_944;
+    let mut block = [0; 512];
+    assert!(!check(&block, largest + 1));
+    block[508..].fill(0xFF);
+    assert!(check(&block, largest) && !check(&block, u32::MAX));
 }
 
 fn exported(number: u32, block: u32, bytes: usize) -> Exported {

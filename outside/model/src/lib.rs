@@ -22,8 +22,8 @@ pub use line::{kinds_right, relay, start, valid, Head, Post, Told, COUNT_LIMIT};
 pub use listing::listing;
 pub use register::{export, import, Exported, Imported, MOST_TEXT};
 pub use sheet::{
-    read, renew_check, sheet_length, write, Entry, Found, BLOCK_BYTES, CHECK, EVENTS_PER_BLOCK,
-    MOST_BLOCKS, MOST_EVENTS, UNANSWERED,
+    check, read, renew_check, sheet_length, write, Entry, Found, BLOCK_BYTES, CHECK,
+    EVENTS_PER_BLOCK, MOST_BLOCKS, MOST_EVENTS, UNANSWERED,
 };
 pub use why::{why, Since};
 pub use working::{work, Worked};

@@ -88,14 +88,14 @@ pub(crate) fn contents(sheet: &[u8]) -> Result<Contents, Refused> {
         events: Vec::new(),
     };
     for (at, bytes) in sheet.chunks(BLOCK_BYTES).enumerate() {
-        let block = words(bytes);
         let refused = |number| Refused {
             number,
             block: at as u32,
         };
-        if sum(&block) != CHECK.wrapping_add(at as u32) {
+        if !check(bytes, at as u32) {
             return Err(refused(CHECK_WRONG));
         }
+        let block = words(bytes);
         let right = if at == 0 {
             read_table(&block, &mut found)
         } else {
@@ -106,6 +106,14 @@ pub(crate) fn contents(sheet: &[u8]) -> Result<Contents, Refused> {
         }
     }
     Ok(found)
+}
+
+/// "The sum of its 128 words, carried round at 2^32, is 317944 plus the block's number":
+/// the check of one block, by its bytes and its number alone (02, item 4). What is not
+/// 512 bytes is no block. Only the sum is carried round, so that no block has the check
+/// of a number from 2^32 - 317944 on.
+pub fn check(block: &[u8], number: u32) -> bool {
+    block.len() == BLOCK_BYTES && CHECK.checked_add(number) == Some(sum(&words(block)))
 }
 
 /// Block 0: "word 0 is 1, word 1 is N, word 2 the start stamp, words 3 onward the N

@@ -100,6 +100,11 @@ impl<R: Read> Wire<R> {
                 let sheet = self.bytes(bytes as usize)?;
                 Ok(Request::Why { sheet, position })
             }
+            11 => {
+                let [bytes, number] = self.few()?;
+                let block = self.bytes(bytes as usize)?;
+                Ok(Request::Check { block, number })
+            }
             _ => self.made_request(code),
         }
     }

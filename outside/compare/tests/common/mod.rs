@@ -16,8 +16,11 @@ pub const SMALL: Wanted = Wanted {
     texts: 20_000,
 };
 
+pub const SMALL_BLOCKS: u64 = 4_000;
+
 pub fn small_run(desk: impl Desk) -> Result<Tally, Difference> {
-    compare(&sorts(), 1, SMALL, &mut InProcess(desk))
+    let shares = SMALL.and_blocks(SMALL_BLOCKS);
+    compare(&sorts(), 1, shares, &mut InProcess(desk))
 }
 
 pub fn must_differ(name: &str, desk: impl Desk) {
@@ -33,7 +36,8 @@ fn is_found(name: &str, run: Result<Tally, Difference>) {
 
 /// A small run of these sorts of cases alone.
 pub fn compare_only(names: &[&str], desk: impl Desk) -> Result<Tally, Difference> {
-    compare_sorts(&sorts(), 1, SMALL, names, &mut InProcess(desk))
+    let shares = SMALL.and_blocks(SMALL_BLOCKS);
+    compare_sorts(&sorts(), 1, shares, names, &mut InProcess(desk))
 }
 
 pub fn must_differ_on(names: &[&str], name: &str, desk: impl Desk) {
