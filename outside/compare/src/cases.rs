@@ -48,6 +48,7 @@ pub struct Wanted {
     pub sheets: u64,
     pub questions: u64,
     pub texts: u64,
+    pub blocks: u64,
 }
 
 pub const ALTERED_ROWS: &str = "altered-rows";
@@ -87,46 +88,35 @@ pub fn sorts() -> Vec<Sort> {
 }
 
 /// Each sort's share, in the order of `sorts`.
-pub struct Shares(pub [u64; 18]);
-
-/// What is wanted, and no single blocks.
-impl From<Wanted> for Shares {
-    fn from(wanted: Wanted) -> Shares {
-        wanted.and_blocks(0)
-    }
-}
-
-impl Wanted {
-    /// The shares of all this, and of so many single blocks.
-    pub fn and_blocks(self, blocks: u64) -> Shares {
-        let Wanted {
-            events,
-            rows,
-            sheets,
-            questions,
-            texts,
-        } = self;
-        Shares([
-            events * 6 / 10,
-            events * 2 / 10,
-            events.div_ceil(5),
-            rows,
-            rows / 10,
-            rows / 10,
-            sheets / 2,
-            sheets.div_ceil(2),
-            sheets / 4,
-            sheets / 200,
-            questions,
-            texts / 4,
-            texts * 4 / 10,
-            texts / 4,
-            texts.div_ceil(10),
-            texts / 1000,
-            texts / 4,
-            blocks,
-        ])
-    }
+pub fn shares(wanted: Wanted) -> [u64; 18] {
+    let Wanted {
+        events,
+        rows,
+        sheets,
+        questions,
+        texts,
+        blocks,
+    } = wanted;
+    [
+        events * 6 / 10,
+        events * 2 / 10,
+        events.div_ceil(5),
+        rows,
+        rows / 10,
+        rows / 10,
+        sheets / 2,
+        sheets.div_ceil(2),
+        sheets / 4,
+        sheets / 200,
+        questions,
+        texts / 4,
+        texts * 4 / 10,
+        texts / 4,
+        texts.div_ceil(10),
+        texts / 1000,
+        texts / 4,
+        blocks,
+    ]
 }
 
 /// The case of this sort and index, from the seed alone.

@@ -115,9 +115,9 @@ fn run_library(options: &Options) -> Result<(), String> {
         sheets: options.sheets.unwrap_or(200_000),
         questions: options.questions,
         texts: options.texts,
+        blocks: options.blocks,
     };
-    let shares = wanted.and_blocks(options.blocks);
-    let tally = compare(&sorts, seed, shares, &mut library).map_err(told)?;
+    let tally = compare(&sorts, seed, wanted, &mut library).map_err(told)?;
     library.finish()?;
     print!("{}", tally.text(&sorts));
     let missing = tally.missing(&sorts);

@@ -3,7 +3,7 @@
 use std::sync::mpsc::{sync_channel, SyncSender};
 use std::thread;
 
-use crate::cases::{case, each_case, Case, Shares, Sort};
+use crate::cases::{case, each_case, shares, Case, Sort, Wanted};
 use crate::desk::Library;
 use crate::request::{Reply, Request};
 use crate::tally::Tally;
@@ -60,22 +60,22 @@ impl Batch {
 pub fn compare(
     sorts: &[Sort],
     seed: u64,
-    shares: impl Into<Shares>,
+    wanted: Wanted,
     library: &mut dyn Library,
 ) -> Result<Tally, Difference> {
     let names: Vec<&str> = sorts.iter().map(|sort| sort.name).collect();
-    compare_sorts(sorts, seed, shares, &names, library)
+    compare_sorts(sorts, seed, wanted, &names, library)
 }
 
 /// The same on the cases of these sorts alone.
 pub fn compare_sorts(
     sorts: &[Sort],
     seed: u64,
-    shares: impl Into<Shares>,
+    wanted: Wanted,
     names: &[&str],
     library: &mut dyn Library,
 ) -> Result<Tally, Difference> {
-    let Shares(mut shares) = shares.into();
+    let mut shares = shares(wanted);
     for (share, sort) in shares.iter_mut().zip(sorts) {
         *share *= u64::from(names.contains(&sort.name));
     }

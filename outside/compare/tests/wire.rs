@@ -18,6 +18,7 @@ const FEW: Wanted = Wanted {
     sheets: 1_000,
     questions: 300,
     texts: 2_000,
+    blocks: 1_000,
 };
 
 fn command(words: &[&str]) -> Vec<String> {
@@ -31,7 +32,7 @@ fn child(words: &[&str]) -> ChildLibrary {
 #[test]
 fn the_model_behind_the_wire_passes() {
     let mut library = child(&[SERVER]);
-    let run = compare(&sorts(), 3, FEW.and_blocks(1_000), &mut library);
+    let run = compare(&sorts(), 3, FEW, &mut library);
     assert!(run.is_ok_and(|tally| tally.answers[0] > 0));
     assert_eq!(library.finish(), Ok(()));
 }

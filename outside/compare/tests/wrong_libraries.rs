@@ -28,6 +28,7 @@ fn what_does_not_come_up_is_missed() {
         sheets: 0,
         questions: 0,
         texts: 0,
+        blocks: 0,
     };
     let run = compare(&sorts(), 1, wanted, &mut InProcess(Model));
     let missing = run.map_or(Vec::new(), |tally| tally.missing(&sorts()));
@@ -58,10 +59,10 @@ fn the_model_passes_a_whole_run() {
         sheets: 200_000,
         questions: 20_000,
         texts: 200_000,
+        blocks: 50_000,
     };
     let began = std::time::Instant::now();
-    let shares = wanted.and_blocks(50_000);
-    let run = compare(&sorts(), 317_944, shares, &mut InProcess(Model));
+    let run = compare(&sorts(), 317_944, wanted, &mut InProcess(Model));
     let tally = run.unwrap_or_else(|d| panic!("{}: {}", d.name, d.text));
     println!("{}{:?}", tally.text(&sorts()), began.elapsed());
     assert_eq!(tally.missing(&sorts()), Vec::<String>::new());

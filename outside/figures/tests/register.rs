@@ -24,6 +24,7 @@ fn the_plain_register_agrees_with_the_model() {
         sheets: 0,
         questions: 0,
         texts: 40_000,
+        blocks: 0,
     };
     let run = compare(&sorts(), 5, wanted, &mut InProcess(Plain));
     let tally = run.unwrap_or_else(|d| panic!("{}: {}", d.name, d.text));

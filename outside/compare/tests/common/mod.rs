@@ -14,13 +14,11 @@ pub const SMALL: Wanted = Wanted {
     sheets: 4_000,
     questions: 2_000,
     texts: 20_000,
+    blocks: 4_000,
 };
 
-pub const SMALL_BLOCKS: u64 = 4_000;
-
 pub fn small_run(desk: impl Desk) -> Result<Tally, Difference> {
-    let shares = SMALL.and_blocks(SMALL_BLOCKS);
-    compare(&sorts(), 1, shares, &mut InProcess(desk))
+    compare(&sorts(), 1, SMALL, &mut InProcess(desk))
 }
 
 pub fn must_differ(name: &str, desk: impl Desk) {
@@ -36,8 +34,7 @@ fn is_found(name: &str, run: Result<Tally, Difference>) {
 
 /// A small run of these sorts of cases alone.
 pub fn compare_only(names: &[&str], desk: impl Desk) -> Result<Tally, Difference> {
-    let shares = SMALL.and_blocks(SMALL_BLOCKS);
-    compare_sorts(&sorts(), 1, shares, names, &mut InProcess(desk))
+    compare_sorts(&sorts(), 1, SMALL, names, &mut InProcess(desk))
 }
 
 pub fn must_differ_on(names: &[&str], name: &str, desk: impl Desk) {
