@@ -4,13 +4,14 @@
  * WHAT is one of
  *     ledger, tested, simple   the sheet's events, one by one: desk_event; the Rust model's event with all its tests;
  *                              the same on a line that is not tested
- *     check, sum, copy         desk_test; a plain Rust sum of each block; memcpy of the sheet
+ *     block, sum               desk_check of each block; a plain Rust sum of each block
+ *     check, copy              desk_test; memcpy of the sheet
  *     work, listing            desk_work; the Rust model's listing
  *     why, plain               desk_why and the Rust model's answer, of the last event that is refused 8, 9 or 13
  *     export, plain_export     desk_export, and plain Rust that does the same
  *     import, plain_import     desk_import of the sheet's register, and plain Rust that does the same
  * Prints how long the rounds took, their number, and a number made of the results of one round: it is the same for
- * ledger, tested and simple, for why and plain, and for each of the last two pairs.
+ * ledger, tested and simple, for block and sum, for why and plain, and for each of the last two pairs.
  */
 #include <stdio.h>
 #include <stdlib.h>
@@ -58,6 +59,15 @@ static uint32_t play(event_call *event)
     for (uint32_t i = 0; i < found.posts; i++)
         fold = fold * 31 + (row[i].word ^ row[i].a ^ row[i].q << 8);
     return fold;
+}
+
+static uint32_t blocks(void)
+{
+    uint32_t bad = 0;
+
+    for (size_t b = 0; b < input_bytes / DESK_BLOCK; b++)
+        bad += !desk_check(input + b * DESK_BLOCK, DESK_BLOCK, (uint32_t)b);
+    return bad;
 }
 
 static uint32_t sums(void)
@@ -126,6 +136,8 @@ static uint32_t round_of(const char *what)
         return play(simple_event);
     if (strcmp(what, "check") == 0)
         return desk_test(input, input_bytes).number;
+    if (strcmp(what, "block") == 0)
+        return blocks();
     if (strcmp(what, "sum") == 0)
         return sums();
     if (strcmp(what, "copy") == 0)
