@@ -1,6 +1,7 @@
 /*
- * How much stack a call takes: it runs on a stack painted with one byte, and what is no longer that byte afterwards
- * was used. Prints a line for each call; the panel has 2,048 bytes.
+ * How much stack a call takes, its return address counted: it runs on a stack painted with one byte, and what is no
+ * longer that byte afterwards was used. The same is done with a function that does nothing in its place, and what that
+ * one uses is the caller's. Prints a line for each call; the panel has 2,048 bytes.
  */
 #include <stdio.h>
 #include <stdlib.h>
@@ -9,13 +10,14 @@
 
 #include "desk.h"
 
-enum { STACK = 1 << 20, PAINT = 0x5C };
+enum { STACK = 1 << 20, PAINT = 0x5C, WORD = 8, APART = 256 };
 
 static uint8_t stack[STACK] __attribute__((aligned(16)));
 static ucontext_t here, there;
 
 static struct desk_post row[DESK_POSTS];
 static uint32_t kinds[DESK_POSTS];
+static struct desk_head head;
 static struct desk_told told;
 static struct desk_verdict verdict;
 static struct desk_found found;
@@ -28,50 +30,84 @@ static uint8_t sheet[2 * DESK_BLOCK], out[2 * DESK_BLOCK];
 static uint8_t text[DESK_TEXT];
 static uint32_t number;
 
-static void nothing(void) {}
-static void one_valid(void) { told.answer = desk_valid(row, DESK_POSTS, told.head); }
-static void one_start(void) { told = desk_start(row, DESK_POSTS, kinds, DESK_POSTS, 0); }
-static void one_event(void) { told = desk_event(row, DESK_POSTS, told.head, 5, 0, 0); }
-static void one_refused(void) { told = desk_event(row, DESK_POSTS, told.head, 5, 0, 0); }
-static void one_test(void) { verdict = desk_test(sheet, sizeof sheet); }
-static void one_read(void) { found = desk_read(sheet, sizeof sheet, kinds, DESK_POSTS, entries, 60); }
-static void one_write(void) { number = desk_write(kinds, DESK_POSTS, 0, (const desk_entry *)entries, 60, sheet, sizeof sheet); }
-static void one_work(void) { worked = desk_work(sheet, sizeof sheet, out, sizeof out); }
-static void one_why(void) { since = desk_why(out, sizeof out, 60); }
-static void one_export(void) { exported = desk_export(out, sizeof out, text, sizeof text); }
-static void one_import(void) { imported = desk_import(text, exported.bytes, sheet, sizeof sheet); }
-static void one_wrong(void) { imported = desk_import(text, exported.bytes - 1, sheet, sizeof sheet); }
+/* What is called: the call that is measured, or `empty`. */
+static void (*volatile callee)(void);
 
-/* The bytes of stack that the call alters, from the highest down. */
-static size_t used(void (*call)(void))
+/* Uses no stack. Where the result of a call is stored, its address is the first argument, and returned. */
+static void *empty(void *result) { return result; }
+
+/* The callee, as this call. */
+#define AS(call) ((__typeof__(&call))callee)
+
+static void one_valid(void) { told.answer = AS(desk_valid)(row, DESK_POSTS, head); }
+static void one_start(void) { told = AS(desk_start)(row, DESK_POSTS, kinds, DESK_POSTS, 0); }
+static void one_event(void) { told = AS(desk_event)(row, DESK_POSTS, head, 5, 0, 0); }
+static void one_check(void) { number = AS(desk_check)(sheet, DESK_BLOCK, 0); }
+static void one_test(void) { verdict = AS(desk_test)(sheet, sizeof sheet); }
+static void one_read(void) { found = AS(desk_read)(sheet, sizeof sheet, kinds, DESK_POSTS, entries, 60); }
+static void one_write(void)
+{
+    number = AS(desk_write)(kinds, DESK_POSTS, 0, (const desk_entry *)entries, 60, sheet, sizeof sheet);
+}
+static void one_work(void) { worked = AS(desk_work)(sheet, sizeof sheet, out, sizeof out); }
+static void one_why(void) { since = AS(desk_why)(out, sizeof out, 60); }
+static void one_export(void) { exported = AS(desk_export)(out, sizeof out, text, sizeof text); }
+static void one_import(void) { imported = AS(desk_import)(text, exported.bytes, sheet, sizeof sheet); }
+static void one_wrong(void) { imported = AS(desk_import)(text, exported.bytes - 1, sheet, sizeof sheet); }
+
+/* The caller of the callee. */
+static void (*caller)(void);
+static volatile size_t place;
+
+/* Further down than what begins and ends a context uses of its stack. */
+static void apart(void)
+{
+    volatile uint8_t room[APART];
+
+    room[place] = 0;
+    caller();
+    (void)room[place];
+}
+
+/* The bytes of stack that a call of the callee alters, from the highest down, in whole words: a used byte may hold the
+ * paint by chance, but not a whole word of it. */
+static size_t used(void (*what)(void))
 {
     size_t low = 0;
 
+    callee = what;
     memset(stack, PAINT, sizeof stack);
     if (getcontext(&there) != 0)
         exit(1);
     there.uc_stack.ss_sp = stack;
     there.uc_stack.ss_size = sizeof stack;
     there.uc_link = &here;
-    makecontext(&there, call, 0);
+    makecontext(&there, apart, 0);
     if (swapcontext(&here, &there) != 0)
         exit(1);
     while (low < sizeof stack && stack[low] == PAINT)
         low++;
-    return sizeof stack - low;
+    return (sizeof stack - low + WORD - 1) / WORD * WORD;
 }
 
-static void print(const char *what, void (*call)(void), uint32_t wanted, const uint32_t *got)
+/* The empty call first, since its result is none; and twice, since the loader may bind what the caller itself calls. */
+static void print(const char *name, void (*one)(void), void (*what)(void), uint32_t wanted, const uint32_t *got)
 {
-    size_t bytes = used(call) - used(nothing);
+    size_t without;
 
-    /* a used byte may hold the paint by chance, but not a whole word of it */
-    printf("%s %zu\n", what, (bytes + 7) / 8 * 8);
+    caller = one;
+    used((void (*)(void))empty);
+    without = used((void (*)(void))empty);
+    printf("%s %zu\n", name, used(what) - without + WORD);
     if (*got != wanted) {
-        fprintf(stderr, "stack: %s answered %u, not %u\n", what, *got, wanted);
+        fprintf(stderr, "stack: %s answered %u, not %u\n", name, *got, wanted);
         exit(1);
     }
 }
+
+/* A call by its own name and by another. */
+#define NAMED(name, one, call, wanted, got) print(name, one, (void (*)(void))call, wanted, got)
+#define PRINT(one, call, wanted, got) NAMED(#call, one, call, wanted, got)
 
 int main(void)
 {
@@ -81,17 +117,20 @@ int main(void)
     /* announced, and then refused 8 since event 1 */
     for (size_t i = 0; i < 60; i++)
         memcpy(entries[i], (desk_entry){i == 0 ? 5 : 1, 0, 31, 0}, sizeof entries[i]);
-    print("desk_start", one_start, 0, &told.answer);
-    print("desk_event", one_event, 0, &told.answer);
-    print("desk_event, refused", one_refused, 9, &told.answer);
-    print("desk_valid", one_valid, 1, &told.answer);
-    print("desk_write", one_write, 0, &number);
-    print("desk_test", one_test, 0, &verdict.number);
-    print("desk_read", one_read, 0, &found.number);
-    print("desk_work", one_work, 0, &worked.number);
-    print("desk_why", one_why, 1, &since.position);
-    print("desk_export", one_export, 0, &exported.number);
-    print("desk_import", one_import, 0, &imported.number);
-    print("desk_import, refused", one_wrong, 28, &imported.number);
+    PRINT(one_start, desk_start, 0, &told.answer);
+    head = told.head;
+    PRINT(one_event, desk_event, 0, &told.answer);
+    head = told.head;
+    NAMED("desk_event, refused", one_event, desk_event, 9, &told.answer);
+    PRINT(one_valid, desk_valid, 1, &told.answer);
+    PRINT(one_write, desk_write, 0, &number);
+    PRINT(one_check, desk_check, 1, &number);
+    PRINT(one_test, desk_test, 0, &verdict.number);
+    PRINT(one_read, desk_read, 0, &found.number);
+    PRINT(one_work, desk_work, 0, &worked.number);
+    PRINT(one_why, desk_why, 1, &since.position);
+    PRINT(one_export, desk_export, 0, &exported.number);
+    PRINT(one_import, desk_import, 0, &imported.number);
+    NAMED("desk_import, refused", one_wrong, desk_import, 28, &imported.number);
     return 0;
 }
