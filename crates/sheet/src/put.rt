@@ -1,4 +1,5 @@
 // A sheet's blocks, written into lent bytes.
+// One loop stores a block's words, the zeros at its end with them: of a loop that stores zeros alone the compiler makes a call of C's memset, whose stack is in none of our archives.
 ghost use mathlib.Core.Path.{_≡_};
 ghost use mathlib.Core.Bool.{true};
 ghost use Prim.Native.Nat.{_+_, _*_, _≤_, _<_};
