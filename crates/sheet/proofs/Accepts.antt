@@ -13,14 +13,15 @@ use lib.ListN.{length}
 use Rattle.relay.proofs.Truth.{and-facts}
 use Rattle.relay.specs.Choice.{pick}
 use Rattle.relay.specs.Kinds.{tableOk}
-use Rattle.sheet.specs.Layout.{blockBytes, blockWords, checkAt, mostBlocks, perBlock}
-use Rattle.sheet.specs.Check.{sum, word, target, checksAs, checks}
+use Rattle.sheet.specs.Layout.{blockBytes, checkAt, mostBlocks, perBlock}
+use Rattle.sheet.specs.Check.{word}
 use Rattle.sheet.specs.Entry.{upperZero}
 use Rattle.sheet.specs.Reading.{kindsIn, headOk, eventsFit, eventsOk, entriesOk, zeros, contentsOk, lengthOk, blocksIn, verdictOf}
 use Rattle.sheet.proofs.Good.{Good}
 use Rattle.sheet.proofs.Lengths.{Whole, whole}
 use Rattle.sheet.proofs.Table.{table-few}
 use Rattle.sheet.proofs.First.{GoodBlock, AllGood, good-blocks}
+use Rattle.sheet.proofs.Sums.{checks-iff}
 
 -- ---- the loops, by index
 zeros-all : (s : List ℕ) (b k n : ℕ) → zeros s b k n ≡ true → (j : ℕ) → k ≤ j → j < k + n → word s b j ≡ 0
@@ -116,10 +117,6 @@ module _ (s : List ℕ) where
   abbrev n : ℕ
   n = blocksIn (length s)
 
-  check-is : (b : ℕ) → (checks s b ≡ true) ↔ (sum (word s b) blockWords % 2 ^ 32 ≡ target b)
-  unfolding checksAs
-  check-is b = (λ e. eqb-true _ _ e, λ e. eq-eqb _ _ e)
-
   later : (b : ℕ) → 1 ≤ b → GoodBlock s n b → GoodEvents s b (eqb (b + 1) n)
   later b h g = events-iff s b (eqb (b + 1) n) .0 (rw (ne-eqb b 0 (λ z. omega arith)) at (g .filled))
 
@@ -133,7 +130,7 @@ module _ (s : List ℕ) where
         some = w .some;
         most = w .most;
         long = sym (w .long);
-        sums = λ b q. check-is b .0 (g b q .checked);
+        sums = λ b q. checks-iff s b b .0 (g b q .checked);
         first = o .first;
         table = o .table;
         rest = o .rest;
@@ -177,7 +174,7 @@ module _ (s : List ℕ) where
       good-blocks s .1 (
         good-length r,
         λ b p q. record {
-          checked = check-is b .1 (r .sums b q);
+          checked = checks-iff s b b .1 (r .sums b q);
           filled = block-of r b q (eqb b 0) refl;
         },
       )

@@ -8,7 +8,7 @@ use mathlib.Core.List.{List}
 use lib.Dec.{eqb}
 use lib.ListN.{length, drop, length-drop}
 use lib.Seq.{length-take-le}
-use borrow.Author.Tests.{eq-eqb, ne-eqb, eqb-true}
+use borrow.Author.Tests.{eq-eqb, ne-eqb}
 use native.Mathlib.Omega.{arith}
 use Rattle.relay.proofs.Truth.{facts}
 use Rattle.sheet.specs.Layout.{blockBytes, blockWords, checkBase, checkWrong}
@@ -18,16 +18,16 @@ use Rattle.sheet.specs.declared.Verdict.{Verdict}
 use Rattle.sheet.proofs.Bytes.{word-drop, word-take}
 use Rattle.sheet.proofs.First.{AllGood, NamedSheet, bad-length, blocks, all-good, bad-check, bad-contents, verdict-iff, good-blocks}
 use Rattle.sheet.proofs.Lengths.{whole}
-use Rattle.sheet.proofs.Sums.{sum-agree}
+use Rattle.sheet.proofs.Sums.{sum-agree, checks-iff}
 
 -- ---- the bytes t of one block
 module _ (t : List ℕ) where
   -- 'The sum of its 128 words, carried round at 2^32, is 317944 plus the block's number', of 512 bytes
   pub alone-iff : (b : ℕ) → (checksAlone t b ≡ true) ↔ ((length t ≡ blockBytes) × (sum (word t 0) blockWords % 2 ^ 32 ≡ checkBase + b))
-  unfolding checksAlone checksAs
+  unfolding checksAlone
   alone-iff b = (
-    λ e. let f = simp facts at e in (f .0, f .1),
-    λ f. rw (eq-eqb (length t) blockBytes (f .0)) (eq-eqb _ _ (f .1)),
+    λ e. let f = simp facts at e in (f .0, checks-iff t 0 b .0 (f .1)),
+    λ f. rw (eq-eqb (length t) blockBytes (f .0)) (checks-iff t 0 b .1 (f .1)),
   )
 
   -- any other length does not check
@@ -35,7 +35,7 @@ module _ (t : List ℕ) where
   unfolding checksAlone
   other-length b n = rw (ne-eqb (length t) blockBytes n)
 
-  -- nor does any block as a number whose target is not carried round
+  -- nor does any block as a number so large that 317944 more is 2^32 or more: no sum carried round comes to that
   pub large-number : (b : ℕ) → 2 ^ 32 ≤ checkBase + b → checksAlone t b ≡ false
   unfolding checksAlone checksAs
   large-number b h = rw (ne-eqb (sum (word t 0) blockWords % 2 ^ 32) (checkBase + b) (λ e. omega arith)) (and-false (eqb (length t) blockBytes))

@@ -1,10 +1,15 @@
--- The laws of a sum of words and of the word that brings it to the target.
+-- The laws of a sum of words, of the check that asks for it, and of the word that brings it to the target.
 -- Assumes nothing.
 use mathlib.Core.Path.{_≡_, refl, ap₂}
+use mathlib.Core.Logic.{_↔_}
+use mathlib.Core.Bool.{true}
+use mathlib.Core.List.{List}
 use Prim.Native.Nat.{ℕ, zero, suc, _+_, _%_, _^_, _<_}
+use borrow.Author.Tests.{eq-eqb, eqb-true}
 use native.Mathlib.Numerals.{add-one}
 use native.Mathlib.Omega.{arith}
-use Rattle.sheet.specs.Check.{sum, target, seal}
+use Rattle.sheet.specs.Layout.{blockWords}
+use Rattle.sheet.specs.Check.{sum, word, target, checksAs, seal}
 
 pub sum-none : (f : ℕ → ℕ) → sum f 0 ≡ 0
 unfolding sum
@@ -25,6 +30,11 @@ pub sum-round : (f g : ℕ → ℕ) (n : ℕ) → ((k : ℕ) → k < n → f k �
 unfolding sum
 sum-round f g zero h = refl
 sum-round f g (suc n) h = omega (arith, sum-round f g n (λ k l. h k (omega arith)), h n (omega arith))
+
+-- the words in place p check as block b exactly when they add up to its target
+pub checks-iff : (s : List ℕ) (p b : ℕ) → (checksAs s p b ≡ true) ↔ (sum (word s p) blockWords % 2 ^ 32 ≡ target b)
+unfolding checksAs
+checks-iff s p b = (λ e. eqb-true _ _ e, λ e. eq-eqb _ _ e)
 
 -- the check depends on no more than that
 pub seal-round : (m n b : ℕ) → m % 2 ^ 32 ≡ n % 2 ^ 32 → seal m b ≡ seal n b
