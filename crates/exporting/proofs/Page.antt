@@ -23,9 +23,9 @@ use Rattle.exporting.proofs.Joins.{joined-none, joined-long, joined-spl
 use Rattle.exporting.proofs.Marks.{field-none, field-some, text-long, register-long}
 use Rattle.exporting.proofs.Registers.{at-start, at-kind, at-event, exported-is}
 
--- `PAGE` of the code: 34 + 16 + 32 * 9 + 3780 * 26
+-- `PAGE` of the code: 34 + 16 + 32 * 10 + 3780 * 26
 abbrev pub page : ℕ
-page = 98618
+page = 98650
 
 -- ---- each record is short
 -- a number below 10 to the f
@@ -47,11 +47,11 @@ module _ (t : Sheet) (w : Writable t) (few : length (t .kinds) ≤ 32) where
       rw (at-start (t .stamp) (t .kinds) (t .events), text-long)
       (omega (arith, none-long, some-within 10 (t .stamp) (omega arith) (omega (arith, w .stamp))))
 
-  kind-short : (j : ℕ) → j < n → length (text (1 + j)) ≤ 9
+  kind-short : (j : ℕ) → j < n → length (text (1 + j)) ≤ 10
   kind-short j h =
       let e : 1 + j ≡ j + 1 = omega arith in
       rw (e, at-kind (t .stamp) (t .kinds) (t .events) j h, text-long)
-      (omega (arith, none-long, some-within 1 (getD (t .kinds) j 0) (omega arith) (omega (arith, table-small (t .kinds) (w .table) j)), some-within 2 j (omega arith) (omega arith)))
+      (omega (arith, none-long, some-within 2 (getD (t .kinds) j 0) (omega arith) (omega (arith, table-small (t .kinds) (w .table) j)), some-within 2 j (omega arith) (omega arith)))
 
   event-short : (k : ℕ) → k < length (t .events) → length (text (1 + n + k)) ≤ 26
   unfolding eventFields
@@ -75,7 +75,7 @@ module _ (t : Sheet) (w : Writable t) (few : length (t .kinds) ≤ 32) where
   register-short =
       let m = length (t .events) in
       let start : length (joined text 1) ≤ 16 = omega (arith, joined-long text 0, ap (λ (x : List ℕ). length x) (joined-none text), start-short) in
-      let kinds = joined-within (λ j. text (1 + j)) 9 n kind-short in
+      let kinds = joined-within (λ j. text (1 + j)) 10 n kind-short in
       let events = joined-within (λ k. text (1 + n + k)) 26 m event-short in
       let a : length (joined text (1 + n)) ≡ length (joined text 1) + length (joined (λ j. text (1 + j)) n) = ap (λ (x : List ℕ). length x) (joined-split text 1 n) ∙ length-append (joined text 1) _ in
       let b : length (joined text (1 + n + m)) ≡ length (joined text (1 + n)) + length (joined (λ k. text (1 + n + k)) m) = ap (λ (x : List ℕ). length x) (joined-split text (1 + n) m) ∙ length-append (joined text (1 + n)) _ in

@@ -9,7 +9,7 @@ use sheet::layout::MOST_ENTRIES;
 use sheet::layout::ROOM_SHORT;
 
 // Room for any register: the header, the start, 32 kinds and 3,780 events.
-pub const PAGE: usize = 34 + 16 + 32 * 9 + MOST_ENTRIES * 26;
+pub const PAGE: usize = 34 + 16 + 32 * 10 + MOST_ENTRIES * 26;
 
 // What export returns: the number and block of a refusal, or 0 and 0 and how long the text is.
 #[repr(C)]

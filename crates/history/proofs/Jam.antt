@@ -8,7 +8,7 @@ use mathlib.Core.List.{List}
 use borrow.Author.Tests.{eqb-true}
 use lib.Dec.{eqb}
 use Rattle.relay.specs.Examples.{Event}
-use Rattle.relay.specs.Kinds.{terminus}
+use Rattle.relay.specs.Kinds.{terminus, ordinary}
 use Rattle.relay.specs.Line.{startable}
 use Rattle.relay.specs.Posts.{at, freshWord}
 use Rattle.relay.specs.Relays.{jam, up, raise}
@@ -49,7 +49,7 @@ jam-followed =
       only = λ i x e. (not-did 11 moves i x refl e, not-did 12 moves i x refl e);
       relay = refl;
       own = refl;
-      fresh = λ k. split (eqb k terminus) (λ e. rw e) (λ e. rw e);
+      fresh = λ k. split (eqb (ordinary k) terminus) (λ e. rw e) (λ e. rw e);
       blank = refl;
     }
 

@@ -11,18 +11,16 @@ use lib.ListN.{length}
 use Rattle.relay.specs.Examples.{Event}
 use Rattle.relay.specs.Line.{startable}
 use Rattle.relay.specs.Posts.{at}
-use Rattle.relay.specs.Relays.{An, jam, up}
-use Rattle.relay.specs.declared.Pair.{Pair}
+use Rattle.relay.specs.Relays.{An, up}
 use Rattle.relay.specs.declared.Post.{Post}
-use Rattle.relay.proofs.Accepted.{event-cases}
-use Rattle.relay.proofs.Cases.{Taken, release, garage, accepted-case}
-use Rattle.relay.proofs.Truth.{and-facts, not-facts, nor-facts, or-facts, split}
+use Rattle.relay.proofs.Truth.{and-facts, not-facts, nor-facts, split}
 use Rattle.history.specs.Demand.{Unjammed}
-use Rattle.history.specs.History.{Entry, entry, did, isUp, isJammed, announcement, releases, announced, receives, jamLoses}
-use Rattle.history.specs.Run.{State, answer, step, run, begun, Befalls, given-event, refused-outside, moved-elsewhere, Reached, at-first, further}
+use Rattle.history.specs.History.{Entry, did, isUp, isJammed, announcement, releases, announced, receives, jamLoses}
+use Rattle.history.specs.Run.{State, run, begun, Reached, at-first}
 use Rattle.history.proofs.Agrees.{and-false, recorded}
 use Rattle.history.proofs.Reached.{run-reached}
-use Rattle.history.proofs.Reopened.{did-facts, none}
+use Rattle.history.proofs.Releases.{Behind, releases-behind}
+use Rattle.history.proofs.Reopened.{did-facts}
 use Rattle.history.proofs.Runs.{Sound, reached-sound, reached-length, begun-sound, begun-length}
 
 -- ---- positions
@@ -39,53 +37,6 @@ freed-since i (y ∷ m) x b d e =
     split (did 12 i y)
     (λ f. record { later = []; freeing = y; earlier = m; splits = refl; freed = f })
     (λ f. later-on y (freed-since i m x b d (rw f at (nor-facts (did 11 i y) _ .0 e .1))))
-
--- ---- a release
--- a release taken found the button free
-release-free : {i j : ℕ} {p o : Post} {b : Pair} → Taken i j p o 6 b → up jam (p .word) ≡ false
-release-free (release k a m c d e f) = m
-
-garage-free : {i j : ℕ} {p o : Post} {b : Pair} → Taken i j p o 7 b → up jam (p .word) ≡ false
-garage-free (garage k a m c d) = m
-
--- x is a 6 or 7 taken at post i
-abbrev Releases : ℕ → Entry → Type 0
-Releases i x = (did 6 i x || did 7 i x) ≡ true
-
--- it was taken
-released-taken : (i : ℕ) (e : Event) (n : ℕ) → Releases i (entry e n) → n ≡ 0
-released-taken i e n =
-    or-facts (did 6 i (entry e n)) (did 7 i (entry e n)) (λ d. did-facts 6 i (entry e n) d .0) (λ d. did-facts 7 i (entry e n) d .0)
-
--- so that the history before it does not say jammed
-event-free : (i : ℕ) (e : Event) (w : State) → Sound w → Releases i (entry e (answer e w)) → isJammed i (w .history) ≡ false
-event-free i e w r =
-    event-cases (λ a. Releases i (entry e (a .told .answer)) → isJammed i (w .history) ≡ false) (w .line) (w .head) (e .number) (e .post) (e .stamp)
-    (λ c.
-    let T = accepted-case (w .line) (w .head) (e .number) (e .post) (e .stamp) c in
-    or-facts (did 6 i (entry e 0)) (did 7 i (entry e 0))
-    (λ d. let f = did-facts 6 i (entry e 0) d in sym (r .jams i) ∙ rw (f .1 .1) at (release-free (rw (f .1 .0) at T)))
-    (λ d. let f = did-facts 7 i (entry e 0) d in sym (r .jams i) ∙ rw (f .1 .1) at (garage-free (rw (f .1 .0) at T))))
-    (λ c d. absurd (c (released-taken i e _ d)))
-
--- every release of post i in a history stands after one that does not say jammed
-abbrev Free : ℕ → List Entry → Type 0
-Free i h = (later : List Entry) (y : Entry) (rest : List Entry) → h ≡ later ++ (y ∷ rest) → Releases i y → isJammed i rest ≡ false
-
--- one entry more
-free-more : (i : ℕ) (n : Entry) (h : List Entry) → (Releases i n → isJammed i h ≡ false) → Free i h → Free i (n ∷ h)
-free-more i n h c o [] y rest z d =
-    let f : y ≡ n = cc in
-    let g : rest ≡ h = cc in
-    rw g (c (rw f at d))
-free-more i n h c o (v ∷ later) y rest z d = let g : h ≡ later ++ (y ∷ rest) = cc in o later y rest g d
-
--- whatever befalls the line
-befalls-free : (i : ℕ) {w v : State} → Befalls w v → Sound w → Free i (w .history) → Free i (v .history)
-unfolding step
-befalls-free i {w} (given-event e) r o = free-more i _ (w .history) (event-free i e w r) o
-befalls-free i {w} (refused-outside e n f) r o = free-more i _ (w .history) (λ d. absurd (omega (arith, released-taken i e n d))) o
-befalls-free i (moved-elsewhere s f g) r o = o
 
 -- ---- an announcement recorded
 -- an entry has one number
@@ -114,13 +65,13 @@ recorded-since s (y ∷ m) x b d e a =
 
 -- ---- from a line started on a row l from a table ks at a stamp t
 module _ (l : List Post) (ks : List ℕ) (t : ℕ) (started : startable l ks ≡ true) where
-  sound : {w : State} → Reached (begun l ks t) w → Sound w
+  sound : {w : State} → Reached (begun l ks t) w → Sound ks w
   sound r = reached-sound r (begun-sound l ks t started)
 
-  free : (i : ℕ) {w : State} → Reached (begun l ks t) w → Free i (w .history)
+  -- a release stands behind a history that does not say jammed
+  free : (i : ℕ) {w : State} → Reached (begun l ks t) w → Behind i (λ h. isJammed i h ≡ false) (w .history)
   unfolding begun
-  free i at-first = λ later y rest z d. absurd (none later y rest z)
-  free i (further r x) = befalls-free i x (sound r) (free i r)
+  free i = releases-behind i _ refl (λ w r f. sym (sound r .jams i) ∙ f .free)
 
   -- no release is taken at a post between its jam and its freeing: in the history of every state reached, x is an 11 taken at post i, y a later 6 or 7 taken there
   pub reached-not-released : {w : State} → Reached (begun l ks t) w → (i : ℕ)
@@ -135,7 +86,7 @@ module _ (l : List Post) (ks : List ℕ) (t : ℕ) (started : startable l ks ≡
       → up An (at (w .line) (s + 1) .word) ≡ announced s (w .history)
   reached-recorded {w} r s fits =
       let k : s + 1 < length (w .line) = omega (arith, reached-length r, begun-length l ks t started) in
-      sym (recorded s (w .history) (at (w .line) s) (at (w .line) (s + 1)) (sound r .agrees s k) .0)
+      sym (recorded ks s (w .history) (at (w .line) s) (at (w .line) (s + 1)) (sound r .agrees s k) .0)
 
   -- An does not rise between the jam and the freeing: x is an 11 taken there when An was down, and An is up in the state reached
   pub reached-not-recorded : {w : State} → Reached (begun l ks t) w → (s : ℕ) → s + 1 < length ks

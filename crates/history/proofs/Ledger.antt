@@ -8,7 +8,7 @@ use native.Mathlib.Omega.{arith}
 use lib.ListN.{length}
 use Rattle.relay.specs.Examples.{Event}
 use Rattle.relay.specs.Line.{startable}
-use Rattle.relay.specs.Posts.{at}
+use Rattle.relay.specs.Posts.{at, form}
 use Rattle.relay.specs.Relays.{RL, signal, up}
 use Rattle.relay.specs.declared.Post.{Post}
 use Rattle.relay.proofs.Facts.{PostOk, SectionOk, ValidLine, valid-iff}
@@ -23,9 +23,9 @@ use Rattle.history.proofs.Runs.{Sound, reached-sound, reached-length, b
 
 -- ---- one section
 -- the equations of a valid section, with counts for the records'
-held-by : {s : ℕ} {h : List Entry} {p d : Post} → SectionOk p d → Agrees s h p d → HeldByOne s h p d
+held-by : {s : ℕ} {h : List Entry} {p d : Post} (ks : List ℕ) → SectionOk p d → Agrees ks s h p d → HeldByOne s h p d
 unfolding holders notRestored losses
-held-by {p = p} r z =
+held-by {p = p} ks r z =
     record {
       restored = omega (arith, up-or-down (up RL (p .word)));
       occupied = λ e. omega (arith, ones, up-or-down (up RL (p .word)));
@@ -35,7 +35,7 @@ held-by {p = p} r z =
 -- an open signal requires a reversed lever, and RL down a normal one
 locks : {n i t : ℕ} {p : Post} → PostOk n i t p → i + 1 < n → Locked p
 locks {n} {i} {p = p} r k =
-    let f = r .word .held-locked (not-terminus n i (p .kind) (r .kind) k) in
+    let f = r .word .held-locked (not-terminus n i (form p) (r .kind) k) in
     record {
       closed = λ e. split (up signal (p .word)) (λ c. absurd (false≢true (sym (f e .1) ∙ r .word .open-reversed c))) (λ c. c);
       l-down = λ e. f e .0;
@@ -45,7 +45,7 @@ locks {n} {i} {p = p} r k =
 -- ---- in every state w reached from a line started on a row l from a table ks at a stamp t
 module _ (l : List Post) (ks : List ℕ) (t : ℕ) (started : startable l ks ≡ true) {w : State} (r : Reached (begun l ks t) w) where
   -- the state is sound, the line is valid, and it has a post for each kind
-  sound : Sound w
+  sound : Sound ks w
   sound = reached-sound r (begun-sound l ks t started)
 
   line : ValidLine (w .line) (w .head)
@@ -59,7 +59,7 @@ module _ (l : List Post) (ks : List ℕ) (t : ℕ) (started : startable l ks ≡
   within s fits = omega (arith, posts)
 
   -- the nine counts are the history's
-  pub reached-counted : (s : ℕ) → s + 1 < length ks → Counted s (w .history) (at (w .line) s) (at (w .line) (s + 1))
+  pub reached-counted : (s : ℕ) → s + 1 < length ks → Counted ks s (w .history) (at (w .line) s) (at (w .line) (s + 1))
   reached-counted s fits = omega (arith, sound .agrees s (within s fits))
 
   -- the first post and the last have no others
@@ -72,12 +72,12 @@ module _ (l : List Post) (ks : List ℕ) (t : ℕ) (started : startable l ks ≡
       omega arith
 
   -- what was sent is received, lost or under way; what was passed is released or waiting
-  pub reached-conserved : (s : ℕ) → s + 1 < length ks → Conserved s (w .history) (at (w .line) s) (at (w .line) (s + 1))
+  pub reached-conserved : (s : ℕ) → s + 1 < length ks → Conserved ks s (w .history) (at (w .line) s) (at (w .line) (s + 1))
   reached-conserved s fits = omega (arith, sound .agrees s (within s fits), line .sections s (within s fits))
 
   -- an occupied section is held by exactly one thing, a free one by none
   pub reached-held-by-one : (s : ℕ) → s + 1 < length ks → HeldByOne s (w .history) (at (w .line) s) (at (w .line) (s + 1))
-  reached-held-by-one s fits = held-by (line .sections s (within s fits)) (sound .agrees s (within s fits))
+  reached-held-by-one s fits = held-by ks (line .sections s (within s fits)) (sound .agrees s (within s fits))
 
   -- while it is held its semaphore is closed and its lever locked
   pub reached-locked : (s : ℕ) → s + 1 < length ks → Locked (at (w .line) s)
@@ -96,13 +96,13 @@ module _ (l : List Post) (ks : List ℕ) (t : ℕ) (started : startable l ks ≡
   ran : Reached (begun l ks t) (run es (begun l ks t))
   ran = run-reached es (begun l ks t) at-first
 
-  pub counted : (s : ℕ) → s + 1 < length ks → Counted s written (post s) (post (s + 1))
+  pub counted : (s : ℕ) → s + 1 < length ks → Counted ks s written (post s) (post (s + 1))
   counted = reached-counted l ks t started ran
 
   pub ends : (i : ℕ) → i + 1 ≡ length ks → Ends (post 0) (post i)
   ends = reached-ends l ks t started ran
 
-  pub conserved : (s : ℕ) → s + 1 < length ks → Conserved s written (post s) (post (s + 1))
+  pub conserved : (s : ℕ) → s + 1 < length ks → Conserved ks s written (post s) (post (s + 1))
   conserved = reached-conserved l ks t started ran
 
   pub held-by-one : (s : ℕ) → s + 1 < length ks → HeldByOne s written (post s) (post (s + 1))

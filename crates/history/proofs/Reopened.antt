@@ -7,9 +7,9 @@ use mathlib.Core.List.{List, [], _∷_, _++_}
 use native.Mathlib.Omega.{arith}
 use lib.ListN.{length, getD}
 use Rattle.relay.specs.Examples.{Event, ev-at}
-use Rattle.relay.specs.Kinds.{terminus, blocksAtPedal}
+use Rattle.relay.specs.Kinds.{terminus, ordinary, blocksAtPedal}
 use Rattle.relay.specs.Line.{startable}
-use Rattle.relay.specs.Posts.{at}
+use Rattle.relay.specs.Posts.{at, form}
 use Rattle.relay.specs.Relays.{L, RL, lever, signal, up}
 use Rattle.relay.specs.declared.Pair.{Pair}
 use Rattle.relay.specs.declared.Post.{Post}
@@ -68,14 +68,14 @@ unfolding blocksAtPedal
 not-last k a e = false≢true (rw e at a)
 
 -- a strike taken there with the lever reversed: L drops, and RL stays
-strike-drops : {i j : ℕ} {p o : Post} {b : Pair} → blocksAtPedal (p .kind) ≡ true → up lever (p .word) ≡ true → Taken i j p o 4 b
+strike-drops : {i j : ℕ} {p o : Post} {b : Pair} → blocksAtPedal (form p) ≡ true → up lever (p .word) ≡ true → Taken i j p o 4 b
     → (up L (b .here .word) ≡ false) × (up RL (b .here .word) ≡ up RL (p .word))
 strike-drops k x (strike-block a b) = (simp relays, simp relays)
-strike-drops {p = p} k x (strike-close a b) = absurd (not-last (p .kind) k a)
+strike-drops {p = p} k x (strike-close a b) = absurd (not-last (form p) k a)
 strike-drops k x (strike-idle a b) = absurd (false≢true (sym b ∙ x))
 
 -- a strike with the signal open leaves L down and RL up
-strike-shuts : (w : State) (i t : ℕ) → blocksAtPedal (at (w .line) i .kind) ≡ true → up signal (at (w .line) i .word) ≡ true
+strike-shuts : (w : State) (i t : ℕ) → blocksAtPedal (form (at (w .line) i)) ≡ true → up signal (at (w .line) i .word) ≡ true
     → answer (ev-at 4 i t) w ≡ 0
     → (up L (at (given (ev-at 4 i t) w .line) i .word) ≡ false) × (up RL (at (given (ev-at 4 i t) w .line) i .word) ≡ true)
 strike-shuts w i t b o =
@@ -87,29 +87,29 @@ strike-shuts w i t b o =
     let x : up lever (at (w .line) i .word) ≡ true = p .word .open-reversed o in
     let y : up RL (at (w .line) i .word) ≡ true =
     split (up RL (at (w .line) i .word)) (λ d. d)
-    (λ d. absurd (false≢true (sym (p .word .held-locked (not-last (at (w .line) i .kind) b) d .1) ∙ x))) in
+    (λ d. absurd (false≢true (sym (p .word .held-locked (not-last (form (at (w .line) i)) b) d .1) ∙ x))) in
     let f = strike-drops b x (accepted-case (w .line) (w .head) 4 i t c) in
     rw (taken-replaces (w .line) (w .head) 4 i t c .first) (f .0, f .1 ∙ y))
     (λ c e. absurd (c e))
 
 -- a lever reversed at a post but the terminus had L up
-reverse-had : {i j : ℕ} {p o : Post} {b : Pair} → (p .kind ≡ terminus → ⊥) → Taken i j p o 1 b → up L (p .word) ≡ true
+reverse-had : {i j : ℕ} {p o : Post} {b : Pair} → (form p ≡ terminus → ⊥) → Taken i j p o 1 b → up L (p .word) ≡ true
 reverse-had k (reverse a b) = b k
 
 -- a lever is reversed with L up
-reverse-opens : (w : State) (i t : ℕ) → blocksAtPedal (at (w .line) i .kind) ≡ true → answer (ev-at 1 i t) w ≡ 0
+reverse-opens : (w : State) (i t : ℕ) → blocksAtPedal (form (at (w .line) i)) ≡ true → answer (ev-at 1 i t) w ≡ 0
     → (i < length (w .line)) × (up L (at (w .line) i .word) ≡ true)
 reverse-opens w i t b =
     event-cases (λ a. a .told .answer ≡ 0 → (i < length (w .line)) × (up L (at (w .line) i .word) ≡ true)) (w .line) (w .head) 1 i t
-    (λ c e. (c .place, reverse-had (not-last (at (w .line) i .kind) b) (accepted-case (w .line) (w .head) 1 i t c)))
+    (λ c e. (c .place, reverse-had (not-last (form (at (w .line) i)) b) (accepted-case (w .line) (w .head) 1 i t c)))
     (λ c e. absurd (c e))
 
 -- L up is not blocked
-unblocked : {n i t : ℕ} {base h : List Entry} {q : Post} → PostOk n i t q → blocksAtPedal (q .kind) ≡ true → up L (q .word) ≡ true
+unblocked : {n i t : ℕ} {base h : List Entry} {q : Post} → PostOk n i t q → blocksAtPedal (form q) ≡ true → up L (q .word) ≡ true
     → Blocked i base h q
     → Freed i h base
 unblocked r k o (shut a b e z) = absurd (false≢true (sym a ∙ o))
-unblocked {q = q} r k o (sent a m y e z c) = absurd (false≢true (sym (r .word .held-locked (not-last (q .kind) k) a .0) ∙ o))
+unblocked {q = q} r k o (sent a m y e z c) = absurd (false≢true (sym (r .word .held-locked (not-last (form q) k) a .0) ∙ o))
 unblocked r k o (freed f) = f
 
 -- ---- an entry of event n taken at i
@@ -126,13 +126,13 @@ pub record Comes (i : ℕ) (h : List Entry) (x : Entry) (q q′ : Post) : Type 0
   pub opens : did 1 i x ≡ true → (base : List Entry) → Blocked i base h q → Freed i h base
 
 -- what is known of a post i that blocks at the signal pedal
-pub record Known (i : ℕ) (w : State) : Type 0 where
-  pub sound : Sound w
+pub record Known (ks : List ℕ) (i : ℕ) (w : State) : Type 0 where
+  pub sound : Sound ks w
   pub says : Says w
-  pub blocks : blocksAtPedal (at (w .line) i .kind) ≡ true
+  pub blocks : blocksAtPedal (form (at (w .line) i)) ≡ true
 
 -- an event, taken or refused
-event-comes : (i : ℕ) (e : Event) (w : State) → Known i w
+event-comes : {ks : List ℕ} (i : ℕ) (e : Event) (w : State) → Known ks i w
     → Comes i (w .history) (entry e (answer e w)) (at (w .line) i) (at (given e w .line) i)
 event-comes i e w r =
     record {
@@ -195,7 +195,8 @@ module _ {i : ℕ} {h : List Entry} {n : Entry} {q q′ : Post} (c : Comes i h n
   more-order = record { since = more-since; before = more-before }
 
 -- whatever befalls the line keeps the order
-befalls-order : (i : ℕ) {w v : State} → Befalls w v → Known i w → Order i (w .history) (at (w .line) i) → Order i (v .history) (at (v .line) i)
+befalls-order : {ks : List ℕ} (i : ℕ) {w v : State} → Befalls w v → Known ks i w → Order i (w .history) (at (w .line) i)
+    → Order i (v .history) (at (v .line) i)
 unfolding step
 befalls-order i {w} (given-event e) r o = more-order (event-comes i e w r) o
 befalls-order i {w} (refused-outside e n f) r o = more-order (outside-comes i e n (w .history) (at (w .line) i) (λ z. omega arith)) o
@@ -216,7 +217,7 @@ begun-order i l ks t =
     }
 
 -- ---- from a line started on a row l from a table ks at a stamp t, at a post i that blocks at the signal pedal
-module _ (l : List Post) (ks : List ℕ) (t : ℕ) (f : startable l ks ≡ true) (i : ℕ) (k : blocksAtPedal (getD ks i 0) ≡ true) where
+module _ (l : List Post) (ks : List ℕ) (t : ℕ) (f : startable l ks ≡ true) (i : ℕ) (k : blocksAtPedal (ordinary (getD ks i 0)) ≡ true) where
   -- every state reached is in order
   reached-order : {w : State} → Reached (begun l ks t) w → Order i (w .history) (at (w .line) i)
   reached-order at-first = begun-order i l ks t
@@ -232,7 +233,7 @@ module _ (l : List Post) (ks : List ℕ) (t : ℕ) (f : startable l ks ≡ true)
 -- 'At an origin post, or a station that blocks at the signal pedal, a semaphore passed open can't open again before an announcement is sent and then a release received or a restoration made.'
 -- In the history of every state reached: x is a strike taken at post i with the semaphore open, y a later 1 taken there
 pub reached-not-reopened : (l : List Post) (ks : List ℕ) (t : ℕ) → startable l ks ≡ true → {w : State} → Reached (begun l ks t) w → (i : ℕ)
-    → blocksAtPedal (getD ks i 0) ≡ true
+    → blocksAtPedal (ordinary (getD ks i 0)) ≡ true
     → (later : List Entry) (y : Entry) (m : List Entry) (x : Entry) (b : List Entry)
     → w .history ≡ later ++ (y ∷ (m ++ (x ∷ b)))
     → did 1 i y ≡ true → did 4 i x ≡ true → isOpen i b ≡ true
@@ -241,7 +242,7 @@ reached-not-reopened l ks t f r i k = reached-order l ks t f i k r .before
 
 -- so in the history of any run
 pub not-reopened : (l : List Post) (ks : List ℕ) (t : ℕ) → startable l ks ≡ true → (es : List Event) (i : ℕ)
-    → blocksAtPedal (getD ks i 0) ≡ true
+    → blocksAtPedal (ordinary (getD ks i 0)) ≡ true
     → (later : List Entry) (y : Entry) (m : List Entry) (x : Entry) (b : List Entry)
     → run es (begun l ks t) .history ≡ later ++ (y ∷ (m ++ (x ∷ b)))
     → did 1 i y ≡ true → did 4 i x ≡ true → isOpen i b ≡ true

@@ -34,13 +34,13 @@ use Rattle.history.proofs.Reached.{always, run-reached}
 unaltered : {i j : ℕ} {l l′ : List Post} {p q : Post} → Replaced l l′ i j p q → q ≡ at l j → (k : ℕ) → (k ≡ i → ⊥) → at l′ k ≡ at l k
 unaltered {j = j} R z k f = equal-or-not k j (λ e. rw e (R .second ∙ z)) (λ e. R .rest k f e)
 
-module _ {i j : ℕ} {b : Pair} (n t : ℕ) (h : List Entry) (l l′ : List Post) (R : Replaced l l′ i j (b .here) (b .other)) (s : ℕ) (k : SectionOk (at l s) (at l (s + 1))) (z : Agrees s h (at l s) (at l (s + 1))) where
+module _ {i j : ℕ} {b : Pair} (ks : List ℕ) (n t : ℕ) (h : List Entry) (l l′ : List Post) (R : Replaced l l′ i j (b .here) (b .other)) (s : ℕ) (k : SectionOk (at l s) (at l (s + 1))) (z : Agrees ks s h (at l s) (at l (s + 1))) where
   -- what is to be shown of section s
   abbrev Moved : Type 0
-  Moved = Agrees s (more n i t h) (at l′ s) (at l′ (s + 1))
+  Moved = Agrees ks s (more n i t h) (at l′ s) (at l′ (s + 1))
 
   -- the post named is upstream of it
-  below-moves : Below i s → i ≡ s → Moves n i j t h (at l i) (at l j) b → Moved
+  below-moves : Below i s → i ≡ s → Moves ks n i j t h (at l i) (at l j) b → Moved
   below-moves f e (single o g a) =
       let w : at l s ≡ at l i = ap (at l) (sym e) in
       let x : at l′ s ≡ b .here = ap (at l′) (sym e) ∙ R .first in
@@ -59,7 +59,7 @@ module _ {i j : ℕ} {b : Pair} (n t : ℕ) (h : List Entry) (l l′ : List Post
       rw (x, y) (g s f (rw (w, ap (at l) v) at k) (rw (w, ap (at l) v) at z))
 
   -- the post named is downstream of it
-  above-moves : Above i s → i ≡ s + 1 → Moves n i j t h (at l i) (at l j) b → Moved
+  above-moves : Above i s → i ≡ s + 1 → Moves ks n i j t h (at l i) (at l j) b → Moved
   above-moves f e (single o g a) =
       let w : at l (s + 1) ≡ at l i = ap (at l) (sym e) in
       let x : at l′ (s + 1) ≡ b .here = ap (at l′) (sym e) ∙ R .first in
@@ -78,11 +78,11 @@ module _ {i j : ℕ} {b : Pair} (n t : ℕ) (h : List Entry) (l l′ : List Post
       rw (x, y) (a s (at l s) f (rw w at z))
 
   -- the post named is neither
-  apart-moves : Apart i s → (i ≡ s → ⊥) → (i ≡ s + 1 → ⊥) → Moves n i j t h (at l i) (at l j) b → Moved
+  apart-moves : Apart i s → (i ≡ s → ⊥) → (i ≡ s + 1 → ⊥) → Moves ks n i j t h (at l i) (at l j) b → Moved
   apart-moves f d e (single o g a) =
       let x : at l′ s ≡ at l s = unaltered R o s (λ c. d (sym c)) in
       let y : at l′ (s + 1) ≡ at l (s + 1) = unaltered R o (s + 1) (λ c. e (sym c)) in
-      rw (x, y) (apart n i t h s (at l s) (at l (s + 1)) f z)
+      rw (x, y) (apart ks n i t h s (at l s) (at l (s + 1)) f z)
   apart-moves f d e (back q a g p) =
       let x : at l′ s ≡ at l s = R .rest s (λ c. d (sym c)) (λ c. e (omega arith)) in
       equal-or-not (s + 1) j
@@ -91,7 +91,7 @@ module _ {i j : ℕ} {b : Pair} (n t : ℕ) (h : List Entry) (l l′ : List Post
       rw (x, y) (p s (at l s) f (rw (ap (at l) v) at z)))
       (λ v.
       let y : at l′ (s + 1) ≡ at l (s + 1) = R .rest (s + 1) (λ c. e (sym c)) v in
-      rw (x, y) (apart n i t h s (at l s) (at l (s + 1)) f z))
+      rw (x, y) (apart ks n i t h s (at l s) (at l (s + 1)) f z))
   apart-moves f d e (onward q g a p) =
       let y : at l′ (s + 1) ≡ at l (s + 1) = R .rest (s + 1) (λ c. e (sym c)) (λ c. d (omega arith)) in
       equal-or-not s j
@@ -100,10 +100,10 @@ module _ {i j : ℕ} {b : Pair} (n t : ℕ) (h : List Entry) (l l′ : List Post
       rw (x, y) (p s (at l (s + 1)) f (rw (ap (at l) v) at z)))
       (λ v.
       let x : at l′ s ≡ at l s = R .rest s (λ c. d (sym c)) v in
-      rw (x, y) (apart n i t h s (at l s) (at l (s + 1)) f z))
+      rw (x, y) (apart ks n i t h s (at l s) (at l (s + 1)) f z))
 
   -- wherever it lies
-  section-moves : Moves n i j t h (at l i) (at l j) b → Moved
+  section-moves : Moves ks n i j t h (at l i) (at l j) b → Moved
   section-moves m =
       equal-or-not i s
       (λ e. below-moves (eq-eqb i s e, ne-eqb i (s + 1) (λ c. omega arith)) e m)
@@ -114,25 +114,25 @@ module _ {i j : ℕ} {b : Pair} (n t : ℕ) (h : List Entry) (l l′ : List Post
 
 -- ---- a state
 -- the line is valid, and each button and each section agrees with the history
-pub record Sound (w : State) : Type 0 where
+pub record Sound (ks : List ℕ) (w : State) : Type 0 where
   pub valid : valid (w .line) (w .head) ≡ true
   pub jams : (i : ℕ) → up jam (at (w .line) i .word) ≡ isJammed i (w .history)
-  pub agrees : (s : ℕ) → s + 1 < length (w .line) → Agrees s (w .history) (at (w .line) s) (at (w .line) (s + 1))
+  pub agrees : (s : ℕ) → s + 1 < length (w .line) → Agrees ks s (w .history) (at (w .line) s) (at (w .line) (s + 1))
 
 -- an event keeps the agreement of each section
-event-agrees : (e : Event) (h : List Entry) (l : List Post) (v : Head) → ((i : ℕ) → up jam (at l i .word) ≡ isJammed i h)
-    → (s : ℕ) → s + 1 < length l → Agrees s h (at l s) (at l (s + 1))
-    → Agrees s (step e (record { history = h; line = l; head = v }) .history)
+event-agrees : (ks : List ℕ) (e : Event) (h : List Entry) (l : List Post) (v : Head) → ((i : ℕ) → up jam (at l i .word) ≡ isJammed i h)
+    → (s : ℕ) → s + 1 < length l → Agrees ks s h (at l s) (at l (s + 1))
+    → Agrees ks s (step e (record { history = h; line = l; head = v }) .history)
     (at (step e (record { history = h; line = l; head = v }) .line) s)
     (at (step e (record { history = h; line = l; head = v }) .line) (s + 1))
 unfolding step
-event-agrees e h l v J s k z =
-    event-cases (λ a. Agrees s (next e h a .history) (at (a .line) s) (at (a .line) (s + 1))) l v (e .number) (e .post) (e .stamp)
+event-agrees ks e h l v J s k z =
+    event-cases (λ a. Agrees ks s (next e h a .history) (at (a .line) s) (at (a .line) (s + 1))) l v (e .number) (e .post) (e .stamp)
     (λ c.
-    section-moves (e .number) (e .stamp) h l (changedLine l (e .number) (e .post)) (taken-replaces l v (e .number) (e .post) (e .stamp) c)
+    section-moves ks (e .number) (e .stamp) h l (changedLine l (e .number) (e .post)) (taken-replaces l v (e .number) (e .post) (e .stamp) c)
     s (c .valid .sections s k) z
     (moves (c .room) (c .valid .each (e .post) (c .place)) (J (neighbour (e .number) (e .post))) (accepted-case l v (e .number) (e .post) (e .stamp) c)))
-    (λ c. refused e _ h s (at l s) (at l (s + 1)) (ne-eqb _ 0 c) z)
+    (λ c. refused ks e _ h s (at l s) (at l (s + 1)) (ne-eqb _ 0 c) z)
 
 -- no event alters the number of posts
 pub step-length : (e : Event) (w : State) → length (step e w .line) ≡ length (w .line)
@@ -140,28 +140,28 @@ unfolding step
 step-length e w = length-stays (w .line) (w .head) (e .number) (e .post) (e .stamp)
 
 -- every event keeps both
-pub step-sound : (e : Event) (w : State) → Sound w → Sound (step e w)
+pub step-sound : {ks : List ℕ} (e : Event) (w : State) → Sound ks w → Sound ks (step e w)
 unfolding step
-step-sound e w r =
+step-sound {ks} e w r =
     record {
       valid = event-keeps (w .line) (w .head) (e .number) (e .post) (e .stamp) (r .valid);
       jams = step-says jam-followed e w (r .jams);
       agrees = λ s k.
           let fits : s + 1 < length (w .line) = omega (arith, step-length e w) in
-          event-agrees e (w .history) (w .line) (w .head) (r .jams) s fits (r .agrees s fits);
+          event-agrees ks e (w .history) (w .line) (w .head) (r .jams) s fits (r .agrees s fits);
     }
 
 -- whatever befalls the line keeps both
-pub befalls-sound : {w v : State} → Befalls w v → Sound w → Sound v
-befalls-sound {w} (given-event e) r = step-sound e w r
-befalls-sound {w} (refused-outside e n f) r =
+pub befalls-sound : {ks : List ℕ} {w v : State} → Befalls w v → Sound ks w → Sound ks v
+befalls-sound {w = w} (given-event e) r = step-sound e w r
+befalls-sound {ks} {w} (refused-outside e n f) r =
     record {
       valid = r .valid;
       jams = befalls-says jam-followed {w = w} (refused-outside e n f) (r .jams);
       agrees = λ s k.
-          refused e n (w .history) s (at (w .line) s) (at (w .line) (s + 1)) (ne-eqb n 0 (λ z. omega arith)) (r .agrees s k);
+          refused ks e n (w .history) s (at (w .line) s) (at (w .line) (s + 1)) (ne-eqb n 0 (λ z. omega arith)) (r .agrees s k);
     }
-befalls-sound {w} (moved-elsewhere s f g) r =
+befalls-sound {w = w} (moved-elsewhere s f g) r =
     record { valid = later-valid (w .line) (w .head) s (omega arith) (omega arith) (r .valid); jams = r .jams; agrees = r .agrees }
 
 -- nothing alters the number of posts
@@ -172,14 +172,14 @@ befalls-length (moved-elsewhere s f g) = refl
 
 -- ---- the states reached
 -- both hold in every state reached from one where they do, and no post is more or less
-pub reached-sound : {b w : State} → Reached b w → Sound b → Sound w
-reached-sound r = always Sound (λ w v x. befalls-sound x) r
+pub reached-sound : {ks : List ℕ} {b w : State} → Reached b w → Sound ks b → Sound ks w
+reached-sound {ks} r = always (Sound ks) (λ w v x. befalls-sound x) r
 
 pub reached-length : {b w : State} → Reached b w → length (w .line) ≡ length (b .line)
 reached-length {b} r = always (λ w. length (w .line) ≡ length (b .line)) (λ w v x e. befalls-length x ∙ e) r refl
 
 -- every run keeps both
-pub run-sound : (es : List Event) (w : State) → Sound w → Sound (run es w)
+pub run-sound : {ks : List ℕ} (es : List Event) (w : State) → Sound ks w → Sound ks (run es w)
 run-sound es w = reached-sound (run-reached es w at-first)
 
 -- no run alters the number of posts
@@ -200,7 +200,7 @@ unfolding begun startOf
 begun-length l ks t e = rw e (length-fresh ks)
 
 -- a line just started is sound
-pub begun-sound : (l : List Post) (ks : List ℕ) (t : ℕ) → startable l ks ≡ true → Sound (begun l ks t)
+pub begun-sound : (l : List Post) (ks : List ℕ) (t : ℕ) → startable l ks ≡ true → Sound ks (begun l ks t)
 unfolding begun startOf
 begun-sound l ks t e =
     rw e
@@ -209,5 +209,5 @@ begun-sound l ks t e =
       jams = rw e at (begun-says jam-followed l ks t e);
       agrees = λ s k.
           let x : s + 1 < length ks = omega (arith, length-fresh ks) in
-          rw (fresh-at ks s (omega arith), fresh-at ks (s + 1) x) (fresh-agrees s (getD ks s 0) (getD ks (s + 1) 0));
+          rw (fresh-at ks s (omega arith), fresh-at ks (s + 1) x) (fresh-agrees ks s (getD ks s 0));
     })

@@ -7,7 +7,7 @@ use mathlib.Core.List.{List}
 use borrow.Author.Tests.{eqb-true}
 use lib.Dec.{eqb}
 use Rattle.relay.specs.Examples.{Event}
-use Rattle.relay.specs.Kinds.{terminus}
+use Rattle.relay.specs.Kinds.{terminus, ordinary}
 use Rattle.relay.specs.Line.{startable}
 use Rattle.relay.specs.Posts.{at, freshWord}
 use Rattle.relay.specs.Relays.{signal, up, raise}
@@ -57,7 +57,7 @@ signal-followed =
           (not-did 1 moves i x refl e, nor-facts (did 2 i x) (did 4 i x) .1 (not-did 2 moves i x refl e, not-did 4 moves i x refl e));
       relay = refl;
       own = refl;
-      fresh = λ k. split (eqb k terminus) (λ e. rw e) (λ e. rw e);
+      fresh = λ k. split (eqb (ordinary k) terminus) (λ e. rw e) (λ e. rw e);
       blank = refl;
     }
 

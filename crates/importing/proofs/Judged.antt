@@ -8,7 +8,7 @@ use native.Mathlib.Omega.{arith}
 use borrow.Author.Tests.{lt-ltb}
 use lib.Dec.{eqb}
 use Rattle.relay.specs.Choice.{pick}
-use Rattle.relay.specs.Kinds.{terminus}
+use Rattle.relay.specs.Kinds.{terminus, ordinary}
 use Rattle.digits.specs.Numerals.{marked}
 use Rattle.register.specs.declared.Stage.{Stage}
 use Rattle.register.specs.declared.Stage.the-variants.{AtHeader, AtStart, AtKinds, AtEvents}
@@ -37,7 +37,7 @@ standsBy AtEvents p e k = eventStands e k
 abbrev pub goesOn : Stage → State → State
 goesOn AtHeader s = onward s AtStart (s .stamp) (s .posts) (s .events)
 goesOn AtStart s = onward s AtKinds (numberIn (s .marks .d)) (s .posts) (s .events)
-goesOn AtKinds s = onward s (pick (eqb (numberIn (s .marks .b)) terminus) AtEvents AtKinds) (s .stamp) (s .posts + 1) (s .events)
+goesOn AtKinds s = onward s (pick (eqb (ordinary (numberIn (s .marks .b))) terminus) AtEvents AtKinds) (s .stamp) (s .posts + 1) (s .events)
 goesOn AtEvents s = onward s AtEvents (s .stamp) (s .posts) (s .events + 1)
 
 pub judged-by : (g : Stage) (s : State) → judged g s ≡ pick (standsBy g (s .posts) (s .events) (s .marks)) (goesOn g s) (stopped s)

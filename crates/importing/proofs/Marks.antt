@@ -8,7 +8,7 @@ use native.Mathlib.Omega.{arith}
 use borrow.Author.Tests.{le-leb, leb-true, lt-ltb, ltb-true, eqb-true, eq-eqb, ne-eqb}
 use lib.Dec.{eqb, leb, ltb}
 use lib.ListN.{length}
-use Rattle.relay.specs.Kinds.{origin, terminus, between}
+use Rattle.relay.specs.Kinds.{origin, terminus, ordinary, between}
 use Rattle.relay.proofs.Truth.{and-facts, or-facts, split, pick-facts}
 use Rattle.digits.specs.Digits.{digits, value}
 use Rattle.digits.specs.Numerals.{wrong, limit, marked}
@@ -17,7 +17,8 @@ use Rattle.digits.proofs.Value.{digits-value}
 use Rattle.register.specs.Reading.{same, mayStand}
 use Rattle.register.proofs.Alike.{same-refl, same-eq}
 use Rattle.register.proofs.Places.{numeral, numeralBelow}
-use Rattle.register.proofs.Sheets.{between-small}
+use Rattle.relay.proofs.Facts.{between-iff}
+use Rattle.relay.proofs.Forms.{kind-few}
 use Rattle.importing.specs.Steps.{numberIn, isBelow}
 use Rattle.importing.proofs.Letters.{lettered, is-word, word-is}
 
@@ -101,10 +102,13 @@ module _ (f : List ℕ) where
 may-small : (i k : ℕ) → mayStand i k ≡ true → k < 2 ^ 32
 unfolding mayStand
 may-small i k e =
-    let f = pick-facts (eqb i 0) (eqb k origin) (eqb k terminus || (between k && ltb i 31)) .0 e in
+    let j = ordinary k in
+    let f = pick-facts (eqb i 0) (eqb j origin) (eqb j terminus || (between j && ltb i 31)) .0 e in
+    let small : j < 5 =
     split (eqb i 0)
-    (λ z. omega (arith, eqb-true k origin (f .0 z)))
-    (λ z. or-facts (eqb k terminus) (between k && ltb i 31) (λ y. omega (arith, eqb-true k terminus y)) (λ y. omega (arith, between-small k (and-facts (between k) (ltb i 31) .0 y .0))) (f .1 z))
+    (λ z. omega (arith, eqb-true j origin (f .0 z)))
+    (λ z. or-facts (eqb j terminus) (between j && ltb i 31) (λ y. omega (arith, eqb-true j terminus y)) (λ y. omega (arith, between-iff j .0 (and-facts (between j) (ltb i 31) .0 y .0))) (f .1 z)) in
+    omega (arith, kind-few k small)
 
 module _ (i : ℕ) (f : List ℕ) where
   pub same-kind : (numeral f && mayStand i (value 0 f)) ≡ (isBelow (2 ^ 32) (marked 0 f) && mayStand i (numberIn (marked 0 f)))

@@ -7,7 +7,7 @@ use mathlib.Core.List.{List, []}
 use lib.Dec.{eqb, ltb, leb}
 use lib.ListN.{length, getD}
 use Rattle.relay.specs.Choice.{pick}
-use Rattle.relay.specs.Kinds.{terminus}
+use Rattle.relay.specs.Kinds.{terminus, ordinary}
 use Rattle.digits.specs.Numerals.{wrong, limit, withDigit}
 use Rattle.register.specs.Lexer.{class, action, adding}
 use Rattle.register.specs.Reading.{mayStand}
@@ -113,11 +113,11 @@ afterHeader s = pick (headerStands (s .marks)) (onward s AtStart (s .stamp) (s .
 unfoldable pub afterStart : State → State
 afterStart s = pick (startStands (s .marks)) (onward s AtKinds (numberIn (s .marks .d)) (s .posts) (s .events)) (stopped s)
 
--- a 1 ends the table
+-- a 1 or a 17 ends the table
 unfoldable pub afterKind : State → State
 afterKind s =
     pick (kindStands (s .posts) (s .marks))
-    (onward s (pick (eqb (numberIn (s .marks .b)) terminus) AtEvents AtKinds) (s .stamp) (s .posts + 1) (s .events))
+    (onward s (pick (eqb (ordinary (numberIn (s .marks .b))) terminus) AtEvents AtKinds) (s .stamp) (s .posts + 1) (s .events))
     (stopped s)
 
 unfoldable pub afterEvent : State → State

@@ -38,10 +38,11 @@ fn is_below(n: u64, m: u64) -> bool
 fn may_stand(i: u32, kind: u32) -> bool
     ensures { λ r. ⌜ r ≡ mayStand i kind ⌝ }
 {
+    let form = relay::kinds::ordinary(kind);
     if i == 0 {
-        return kind == relay::ORIGIN;
+        return form == relay::ORIGIN;
     }
-    (kind == relay::TERMINUS) | (line::kinds::between(kind) & (i < 31))
+    (form == relay::TERMINUS) | (line::kinds::between(form) & (i < 31))
 }
 
 // The marks of the header's words are their lengths.
@@ -122,13 +123,13 @@ fn after_start(s: State) -> State
     stop(s)
 }
 
-// A 1 ends the table.
+// A 1 or a 17 ends the table.
 fn after_kind(s: State) -> State
     ensures { λ r. ⌜ r ≡ afterKind s ⌝ }
 {
     let k = s.marks;
     if kind_stands(s.posts, k) {
-        if number_of(k.b) == relay::TERMINUS {
+        if relay::kinds::ordinary(number_of(k.b)) == relay::TERMINUS {
             return go_on(s, Stage::AtEvents, s.stamp, s.posts + 1, s.events);
         }
         return go_on(s, Stage::AtKinds, s.stamp, s.posts + 1, s.events);

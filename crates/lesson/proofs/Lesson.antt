@@ -11,7 +11,7 @@ use lib.Dec.{eqb}
 use lib.ListN.{length, getD}
 use Rattle.relay.specs.Answers.{taken}
 use Rattle.relay.specs.Examples.{blanks}
-use Rattle.relay.specs.Kinds.{tableOk, blocksAtPedal}
+use Rattle.relay.specs.Kinds.{ordinary, tableOk, blocksAtPedal}
 use Rattle.relay.specs.Line.{After, head, startable, startOf}
 use Rattle.relay.specs.Posts.{at}
 use Rattle.relay.specs.Relays.{An, up}
@@ -19,12 +19,13 @@ use Rattle.relay.specs.declared.Head.{Head}
 use Rattle.relay.specs.declared.Post.{Post}
 use Rattle.relay.proofs.Frame.{refused-alters-nothing, head-moves}
 use Rattle.relay.proofs.Truth.{split}
-use Rattle.history.specs.History.{Entry, entry, did, isOpen, announced, tally}
+use Rattle.history.specs.History.{Entry, entry, did, isOpen, releases, announced, tally}
 use Rattle.history.specs.Run.{State, step, given-event, Reached, at-first, further}
 use Rattle.history.specs.Run as hist
-use Rattle.history.specs.Demand.{Counted, Ends, Conserved, HeldByOne, Locked, Freed, Unjammed}
+use Rattle.history.specs.Demand.{Counted, Ends, Conserved, HeldByOne, Locked, Freed, Unjammed, Follows}
 use Rattle.history.proofs.Ledger as ledger
 use Rattle.history.proofs.Jammed.{reached-not-released, reached-not-recorded}
+use Rattle.history.proofs.Passed.{reached-follows}
 use Rattle.history.proofs.Reopened.{reached-not-reopened}
 use Rattle.history.proofs.Runs.{reached-length, begun-length}
 use Rattle.sheet.specs.Entry.{numberOf, postOf, stampOf}
@@ -84,14 +85,14 @@ module _ (ks : List ℕ) (t : ℕ) (right : tableOk ks ≡ true) where
     posts = reached-length reached ∙ begun-length (blanks ks) ks t starts
 
     -- the nine counts are those of the sheet's own events
-    pub counted : (s : ℕ) → s + 1 < length ks → Counted s told (post s) (post (s + 1))
+    pub counted : (s : ℕ) → s + 1 < length ks → Counted ks s told (post s) (post (s + 1))
     counted = ledger.reached-counted (blanks ks) ks t starts reached
 
     pub ends : (i : ℕ) → i + 1 ≡ length ks → Ends (post 0) (post i)
     ends = ledger.reached-ends (blanks ks) ks t starts reached
 
     -- what was sent is received, lost or under way; what was passed is released or waiting
-    pub conserved : (s : ℕ) → s + 1 < length ks → Conserved s told (post s) (post (s + 1))
+    pub conserved : (s : ℕ) → s + 1 < length ks → Conserved ks s told (post s) (post (s + 1))
     conserved = ledger.reached-conserved (blanks ks) ks t starts reached
 
     -- an occupied section is held by exactly one thing, a free one by none
@@ -103,7 +104,7 @@ module _ (ks : List ℕ) (t : ℕ) (right : tableOk ks ≡ true) where
     locked = ledger.reached-locked (blanks ks) ks t starts reached
 
     -- a semaphore passed open does not open again before it is freed
-    pub reopened : (i : ℕ) → blocksAtPedal (getD ks i 0) ≡ true
+    pub reopened : (i : ℕ) → blocksAtPedal (ordinary (getD ks i 0)) ≡ true
         → (later : List Entry) (y : Entry) (m : List Entry) (x : Entry) (b : List Entry) → told ≡ later ++ (y ∷ (m ++ (x ∷ b)))
         → did 1 i y ≡ true → did 4 i x ≡ true → isOpen i b ≡ true
         → Freed i (m ++ (x ∷ b)) (x ∷ b)
@@ -121,8 +122,12 @@ module _ (ks : List ℕ) (t : ℕ) (right : tableOk ks ≡ true) where
         → Unjammed (s + 1) m
     recorded = reached-not-recorded (blanks ks) ks t starts reached
 
+    -- a release follows a passage since the previous one
+    pub followed : (s : ℕ) (later : List Entry) (y : Entry) (b : List Entry) → told ≡ later ++ (y ∷ b) → releases s y ≡ true → Follows ks s b
+    followed = reached-follows (blanks ks) ks t starts reached
+
     -- the listing's line of a section
-    pub section-says : (s : ℕ) → s + 1 < length ks → sectionNumbers s (post s) (post (s + 1)) ≡ sectionSays s told (post s)
+    pub section-says : (s : ℕ) → s + 1 < length ks → sectionNumbers s (post s) (post (s + 1)) ≡ sectionSays ks s told (post s)
     unfolding sectionNumbers sectionSays
     section-says s fits = let c = counted s fits in rw (c .sent, c .announcements-received, c .announcements-lost, c .passed, c .releases-sent, c .releases-lost, c .releases-received, c .restored)
 
@@ -159,7 +164,7 @@ module _ (s : List ℕ) (z : verdictOf s .number ≡ 0) where
 
   -- the line of section i says what the worked sheet's events and answers say
   pub sheet-says : (i : ℕ) → i + 1 < length (decode s .kinds)
-      → sectionNumbers i (lineAt i) (lineAt (i + 1)) ≡ sectionSays i (shown (worked (decode s) .events)) (lineAt i)
+      → sectionNumbers i (lineAt i) (lineAt (i + 1)) ≡ sectionSays (decode s .kinds) i (shown (worked (decode s) .events)) (lineAt i)
   sheet-says i fits = section-says (decode s .kinds) (decode s .stamp) (said-table s z) (decode s .events) i fits
 
   -- the head that working returns

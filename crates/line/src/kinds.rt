@@ -1,4 +1,4 @@
-// How many posts a line has, and the kind of each.
+// How many posts a line has, and the kind of each; the rules of a kind take its ordinary form, but `kind_fits`, which takes either.
 ghost use mathlib.Core.Path.{_≡_};
 ghost use Prim.Native.Nat.{_+_};
 ghost use lib.Dec.{eqb};
@@ -52,11 +52,12 @@ pub fn is_last_section(n: usize, i: usize) -> bool
 pub fn kind_fits(n: usize, i: usize, kind: u32) -> bool
     ensures { λ r. ⌜ r ≡ kindFits n i kind ⌝ }
 {
+    let form = relay::kinds::ordinary(kind);
     if i == 0 {
-        return kind == relay::ORIGIN;
+        return form == relay::ORIGIN;
     }
     if is_last(n, i) {
-        return kind == relay::TERMINUS;
+        return form == relay::TERMINUS;
     }
-    between(kind)
+    between(form)
 }

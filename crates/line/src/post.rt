@@ -1,4 +1,4 @@
-// The rules of one post: its word at its kind, and its counts.
+// The rules of one post: its word at its kind, and its counts. Those of a word take the ordinary form of the kind, but where both forms matter.
 ghost use mathlib.Core.Path.{_≡_};
 ghost use Rattle.relay.specs.Posts.{freshWord};
 ghost use Rattle.relay.specs.Valid.{noOtherBits, staysDown, heldIsLocked, pedalBlocks, announcementBlocks, openIsReversed, passageIsAnnounced, wordOk, staysZero, countsWithin, postOk};
@@ -68,37 +68,42 @@ pub fn open_is_reversed(w: u32) -> bool
     needs(w & relay::SIGNAL != 0, w & relay::LEVER != 0)
 }
 
-pub fn passage_is_announced(w: u32) -> bool
-    ensures { λ r. ⌜ r ≡ passageIsAnnounced w ⌝ }
+pub fn passage_is_announced(kind: u32, w: u32) -> bool
+    ensures { λ r. ⌜ r ≡ passageIsAnnounced kind w ⌝ }
 {
-    needs(w & relay::KPG != 0, w & relay::AN != 0)
+    needs(
+        !relay::kinds::is_short(kind),
+        needs(w & relay::KPG != 0, w & relay::AN != 0),
+    )
 }
 
 pub fn word_ok(kind: u32, w: u32) -> bool
     ensures { λ r. ⌜ r ≡ wordOk kind w ⌝ }
 {
+    let form = relay::kinds::ordinary(kind);
     no_other_bits(w)
-        & stays_down(kind, w)
-        & held_is_locked(kind, w)
-        & pedal_blocks(kind, w)
-        & announcement_blocks(kind, w)
+        & stays_down(form, w)
+        & held_is_locked(form, w)
+        & pedal_blocks(form, w)
+        & announcement_blocks(form, w)
         & open_is_reversed(w)
-        & passage_is_announced(w)
+        & passage_is_announced(kind, w)
 }
 
 pub fn stays_zero(p: Post) -> bool
     ensures { λ r. ⌜ r ≡ staysZero p ⌝ }
 {
+    let form = relay::kinds::ordinary(p.kind);
     needs(
-        p.kind == relay::ORIGIN,
+        form == relay::ORIGIN,
         (p.r == 0) & ((p.q == 0) & ((p.e == 0) & (p.c == 0))),
     )
         & needs(
-            p.kind == relay::TERMINUS,
+            form == relay::TERMINUS,
             (p.a == 0) & ((p.x == 0) & ((p.y == 0) & ((p.v == 0) & (p.g == 0)))),
         )
         & needs(
-            (p.kind == relay::TERMINUS) | (p.kind == relay::INTERMEDIATE),
+            (form == relay::TERMINUS) | (form == relay::INTERMEDIATE),
             p.c == 0,
         )
 }
@@ -129,7 +134,7 @@ pub fn post_ok(n: usize, i: usize, taken: u32, p: Post) -> bool
 pub fn fresh_word(kind: u32) -> u32
     ensures { λ r. ⌜ r ≡ freshWord kind ⌝ }
 {
-    if kind == relay::TERMINUS {
+    if relay::kinds::ordinary(kind) == relay::TERMINUS {
         return 0;
     }
     relay::L | relay::RL

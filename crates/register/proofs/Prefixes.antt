@@ -6,7 +6,7 @@ use mathlib.Core.List.{List, [], _∷_, _++_, append-assoc, append-nil}
 use native.Mathlib.Omega.{arith}
 use lib.Dec.{ltb}
 use lib.ListN.{length, take}
-use Rattle.relay.specs.Kinds.{countFits, kindFits, kindsFit, tableOk}
+use Rattle.relay.specs.Kinds.{isShort, ordinary, countFits, kindFits, kindsFit, tableOk}
 use Rattle.relay.proofs.Truth.{split}
 use Rattle.sheet.specs.Sheet.{Sheet}
 use Rattle.register.specs.Records.{header, startRecord, kindRecord, eventRecord, kindRecords, eventRecords, records, rightEvents, Right}
@@ -65,7 +65,7 @@ least : ℕ → Sheet
 least n = record { stamp = n; kinds = 0 ∷ 1 ∷ []; events = [] }
 
 least-right : (n : ℕ) → ltb n (2 ^ 32) ≡ true → Right (least n)
-unfolding least tableOk countFits kindsFit kindFits rightEvents
+unfolding least tableOk countFits kindsFit kindFits ordinary isShort rightEvents
 least-right n h = record { table = refl; stamp = h; events = refl }
 
 Onward : List Rec → Type 0
@@ -76,7 +76,7 @@ unfolding Onward records least rightEvents eventRecords kindRecords
 from-kinds n [] h b = (least n, least-right n h, kindRecords 0 (0 ∷ 1 ∷ []), refl)
 from-kinds n (k ∷ ks) h b = (
   record { stamp = n; kinds = (k ∷ ks) ++ (1 ∷ []); events = [] },
-  record { table = begun-ended (k ∷ ks) (omega arith) b; stamp = h; events = refl },
+  record { table = begun-ended (k ∷ ks) 1 (unfold ordinary isShort in refl) (omega arith) b; stamp = h; events = refl },
   kindRecord (0 + length (k ∷ ks)) 1 ∷ [],
   ap (λ (x : List Rec). header ∷ startRecord n ∷ x) (append-nil (kindRecords 0 ((k ∷ ks) ++ (1 ∷ []))) ∙ kinds-snoc 0 (k ∷ ks) 1),
 )

@@ -7,9 +7,11 @@ use native.Mathlib.Omega.{arith}
 use borrow.Author.Tests.{eq-eqb, eqb-true, ltb-true, lt-ltb}
 use lib.Dec.{eqb}
 use lib.ListN.{length, getD}
-use Rattle.relay.specs.Choice.{pick}
-use Rattle.relay.specs.Kinds.{between, countFits, kindFits, kindsFit, tableOk}
-use Rattle.relay.proofs.Truth.{and-facts, split, or-facts, pick-facts}
+use Rattle.relay.specs.Kinds.{ordinary, countFits, kindFits, kindsFit, tableOk}
+use Rattle.relay.proofs.Facts.{kind-iff}
+use Rattle.relay.proofs.Forms.{kind-few}
+use Rattle.relay.proofs.KeptPosts.{kind-small}
+use Rattle.relay.proofs.Truth.{and-facts}
 use Rattle.sheet.specs.Entry.{inFields, stampOf}
 use Rattle.sheet.specs.Layout.{mostEntries}
 use Rattle.sheet.specs.Sheet.{Sheet, eventAt, encode}
@@ -36,29 +38,17 @@ unfolding rightEvents
 every-right [] h = refl
 every-right (e ∷ es) h = rw (h 0 (omega arith)) (every-right es (λ i l. h (suc i) (omega arith)))
 
--- ---- a kind has one digit
-pub between-small : (k : ℕ) → between k ≡ true → k < 10
-unfolding between
-between-small k e =
-    or-facts (eqb k 2) _ (λ z. omega (arith, eqb-true k 2 z)) (λ e′. or-facts (eqb k 3) _ (λ z. omega (arith, eqb-true k 3 z)) (λ z. omega (arith, eqb-true k 4 z)) e′) e
+-- ---- a kind has two digits at most
+fits-small : (n i k : ℕ) → kindFits n i k ≡ true → k < 21
+fits-small n i k e = kind-few k (kind-small n i (ordinary k) (kind-iff n i k .0 e))
 
-fits-small : (n i k : ℕ) → kindFits n i k ≡ true → k < 10
-unfolding kindFits
-fits-small n i k e =
-    let f = pick-facts (eqb i 0) (eqb k 0) (pick (eqb (i + 1) n) (eqb k 1) (between k)) .0 e in
-    split (eqb i 0)
-    (λ z. omega (arith, eqb-true k 0 (f .0 z)))
-    (λ z.
-    let g = pick-facts (eqb (i + 1) n) (eqb k 1) (between k) .0 (f .1 z) in
-    split (eqb (i + 1) n) (λ y. omega (arith, eqb-true k 1 (g .0 y))) (λ y. between-small k (g .1 y)))
-
-kinds-small : (n j : ℕ) (ks : List ℕ) → kindsFit n j ks ≡ true → Below 10 ks
+kinds-small : (n j : ℕ) (ks : List ℕ) → kindsFit n j ks ≡ true → Below 21 ks
 unfolding kindsFit
 kinds-small n j [] h i = omega arith
 kinds-small n j (k ∷ ks) h zero = fits-small n j k (and-facts (kindFits n j k) (kindsFit n (j + 1) ks) .0 h .0)
 kinds-small n j (k ∷ ks) h (suc i) = kinds-small n (j + 1) ks (and-facts (kindFits n j k) (kindsFit n (j + 1) ks) .0 h .1) i
 
-pub table-small : (ks : List ℕ) → tableOk ks ≡ true → Below 10 ks
+pub table-small : (ks : List ℕ) → tableOk ks ≡ true → Below 21 ks
 unfolding tableOk
 table-small ks h = kinds-small (length ks) 0 ks (and-facts (countFits (length ks)) _ .0 h .1)
 

@@ -8,7 +8,7 @@ use borrow.Author.Tests.{eqb-true, leb-true}
 use lib.Dec.{eqb, ltb, leb}
 use lib.ListN.{length, length-append}
 use Rattle.relay.specs.Choice.{pick}
-use Rattle.relay.specs.Kinds.{countFits, kindFits, kindsFit, tableOk}
+use Rattle.relay.specs.Kinds.{ordinary, countFits, kindFits, kindsFit, tableOk}
 use Rattle.relay.proofs.Truth.{and-facts, split}
 use Rattle.sheet.specs.Entry.{stampOf, inFields}
 use Rattle.sheet.specs.Sheet.{Sheet}
@@ -69,7 +69,7 @@ module _ (t : ℕ) where
     unfolding stands wanted within kindRecord
     kind-stands k h = rw (digits-value k, h, alike-refl (kindRecord (length ks) k))
 
-    kind-taken : (i k : ℕ) → taken (known AtKinds t ks es) (kindRecord i k) ≡ known (pick (eqb k 1) AtEvents AtKinds) t (ks ++ (k ∷ [])) es
+    kind-taken : (i k : ℕ) → taken (known AtKinds t ks es) (kindRecord i k) ≡ known (pick (eqb (ordinary k) 1) AtEvents AtKinds) t (ks ++ (k ∷ [])) es
     unfolding takenAs kindRecord
     kind-taken i k = rw (digits-value k)
 
@@ -206,12 +206,12 @@ keeps AtKinds t r rs h held =
     let may = is-within AtKinds t r h in
     let next = kinds-next rs r (t .stamp) (t .kinds) k (held .0) (is-wanted AtKinds t r h) in
     let z : 0 + length (t .kinds) ≡ length (t .kinds) = omega arith in
-    split (eqb k 1)
+    split (eqb (ordinary k) 1)
     (λ q. rw q ((
       next ∙ ap (λ (x : List Rec). header ∷ startRecord (t .stamp) ∷ x)
           (sym (append-nil (kindRecords 0 (t .kinds ++ (k ∷ [])))) ∙ ap (λ (es : List (List ℕ)). kindRecords 0 (t .kinds ++ (k ∷ [])) ++ eventRecords 1 es) (sym (held .3))),
       record {
-        table = rw (eqb-true k 1 q) (begun-ended (t .kinds) (stands-last (length (t .kinds)) k may q) (held .2));
+        table = begun-ended (t .kinds) k q (stands-last (length (t .kinds)) k may q) (held .2);
         stamp = held .1;
         events = rw (held .3);
       },

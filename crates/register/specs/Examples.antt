@@ -1,5 +1,5 @@
 -- A short register, and texts that differ from it in one thing each: 0 for a text that import accepts, else the record that 28 names.
--- 02, item 3, and RFC 4180. That the definitions say so stands in proofs/Examples.antt.
+-- 02, items 3 and 5, and RFC 4180. That the definitions say so stands in proofs/Examples.antt.
 -- Assumes nothing.
 use Prim.Native.Nat.{ℕ}
 use mathlib.Core.List.{List, [], _∷_, _++_}
@@ -113,6 +113,14 @@ originAgain = 44 ∷ 48 ∷ 44 ∷ 49 ∷ 44 ∷ 44 ∷ []
 abbrev pub between : List ℕ
 between = 44 ∷ 52 ∷ 44 ∷ 49 ∷ 44 ∷ 44 ∷ []
 
+-- ,16,0,,
+abbrev pub short16 : List ℕ
+short16 = 44 ∷ 49 ∷ 54 ∷ 44 ∷ 48 ∷ 44 ∷ 44 ∷ []
+
+-- for post 1 a kind of these two digits, as ,17,1,,
+abbrev pub kindOf1 : ℕ → ℕ → List ℕ
+kindOf1 a b = 44 ∷ a ∷ b ∷ 44 ∷ 49 ∷ 44 ∷ 44 ∷ []
+
 -- ---- the texts
 -- what import says of a text: 0, or the record that 28 names
 abbrev pub says : List ℕ → ℕ
@@ -169,6 +177,14 @@ texts =
     ∷ withPost1 between
     -- 33 posts: at post 31 only a 1 can stand
     ∷ exported (record { stamp = 0; kinds = 0 ∷ (replicate 31 4 ++ (1 ∷ [])); events = [] })
+    -- short forms: a 17 ends the table, a 20 leaves it open, and 16 and 21 are no kinds; at post 31 a 17 can stand, and no 20
+    ∷ withPost1 (kindOf1 49 55)
+    ∷ withPost1 (kindOf1 50 48)
+    ∷ withPost1 (kindOf1 49 54)
+    ∷ withPost1 (kindOf1 50 49)
+    ∷ (headerRow ++ (end ++ (startRow ++ (end ++ (short16 ++ end)))))
+    ∷ exported (record { stamp = 0; kinds = 0 ∷ (replicate 30 20 ++ (17 ∷ [])); events = [] })
+    ∷ exported (record { stamp = 0; kinds = 0 ∷ (replicate 31 20 ++ (17 ∷ [])); events = [] })
     -- a leading zero in the start stamp
     ∷ (headerRow ++ (end ++ (zeros ++ end)))
     ∷ []
@@ -182,5 +198,6 @@ said =
     ∷ 5 ∷ 5 ∷ 5 ∷ 5 ∷ 5 ∷ 5 ∷ 5 ∷ 5 ∷ 5 ∷ 5 ∷ 5 ∷ 5
     ∷ 4 ∷ 4 ∷ 5
     ∷ 34
+    ∷ 0 ∷ 5 ∷ 4 ∷ 4 ∷ 3 ∷ 0 ∷ 34
     ∷ 2
     ∷ []

@@ -7,7 +7,7 @@ use mathlib.Core.List.{List, [], _∷_, _++_}
 use lib.Dec.{eqb, ltb}
 use lib.ListN.{length, getD}
 use Rattle.relay.specs.Choice.{pick}
-use Rattle.relay.specs.Kinds.{origin, terminus, between}
+use Rattle.relay.specs.Kinds.{origin, terminus, ordinary, between}
 use Rattle.sheet.specs.Entry.{entry, inFields}
 use Rattle.sheet.specs.Sheet.{Sheet}
 use Rattle.register.specs.declared.Stage.{Stage}
@@ -48,9 +48,10 @@ num r i = value 0 (getD r i [])
 abbrev pub eventIn : List (List ℕ) → List ℕ
 eventIn r = entry (num r 1) (num r 2) (num r 4) (num r 3)
 
--- post i may have kind k: 0 first; then 2, 3, 4, or a 1, which ends the table; at post 31 only a 1
+-- post i may have kind k: 0 first; then 2, 3, 4, or a 1, which ends the table, or their short forms (02, item 5); at post 31 only a 1 or a 17
 unfoldable pub mayStand : ℕ → ℕ → Bool
-mayStand i k = pick (eqb i 0) (eqb k origin) (eqb k terminus || (between k && ltb i 31))
+mayStand i k =
+    pick (eqb i 0) (eqb (ordinary k) origin) (eqb (ordinary k) terminus || (between (ordinary k) && ltb i 31))
 
 -- the record that its numbers would be written as, at this stage
 unfoldable pub wanted : Stage → Sheet → List (List ℕ) → List (List ℕ)
@@ -70,11 +71,11 @@ within AtEvents t r = inFields (eventIn r) && ltb (num r 3) (2 ^ 32)
 unfoldable pub stands : Read → List (List ℕ) → Bool
 stands s r = alike r (wanted (s .stage) (s .sheet) r) && within (s .stage) (s .sheet) r
 
--- what is known after a record that stands; a 1 ends the table
+-- what is known after a record that stands; a 1 or a 17 ends the table
 unfoldable pub takenAs : Stage → Sheet → List (List ℕ) → Read
 takenAs AtHeader t r = known AtStart (t .stamp) (t .kinds) (t .events)
 takenAs AtStart t r = known AtKinds (num r 3) (t .kinds) (t .events)
-takenAs AtKinds t r = known (pick (eqb (num r 1) terminus) AtEvents AtKinds) (t .stamp) (t .kinds ++ (num r 1 ∷ [])) (t .events)
+takenAs AtKinds t r = known (pick (eqb (ordinary (num r 1)) terminus) AtEvents AtKinds) (t .stamp) (t .kinds ++ (num r 1 ∷ [])) (t .events)
 takenAs AtEvents t r = known AtEvents (t .stamp) (t .kinds) (t .events ++ (eventIn r ∷ []))
 
 abbrev pub taken : Read → List (List ℕ) → Read

@@ -10,9 +10,9 @@ use borrow.Author.Tests.{eqb-true}
 use lib.Dec.{eqb}
 use Rattle.relay.specs.Choice.{grown}
 use Rattle.relay.specs.Events.{pair, reversed, normal, passed, struck, announced, released, garaged, releaseUnderWay, arrived, lost, restored, jammed, freed, lacks, jamHinders, nothingToFree, ownRefusal, refusal, changed}
-use Rattle.relay.specs.Kinds.{origin, terminus, hasSignalPedal, hasPassagePedal, hasGarageRelease, blocksAtPedal}
+use Rattle.relay.specs.Kinds.{origin, terminus, isShort, hasSignalPedal, hasPassagePedal, hasGarageRelease, blocksAtPedal}
 use Rattle.relay.specs.Line.{lastEvent, namesSection, neighbour}
-use Rattle.relay.specs.Posts.{at, post, wordTo, more-a, more-x, more-y, more-v, more-g, more-r, more-q}
+use Rattle.relay.specs.Posts.{at, post, form, wordTo, more-a, more-x, more-y, more-v, more-g, more-r, more-q}
 use Rattle.relay.specs.Relays.{An, KPg, L, RL, lever, signal, W314, W241, jam, up, raise, lower}
 use Rattle.relay.specs.declared.Head.{Head}
 use Rattle.relay.specs.declared.Pair.{Pair}
@@ -34,32 +34,33 @@ underWay o = wordTo (raise W241 (o .word)) o
 -- A case that alters its neighbour, or asks for what stands there, says where it lies
 pub data Taken (i j : ℕ) (p o : Post) : ℕ → Pair → Type 0 where
   -- 1. Reverse the lever: 'signal opens'
-  reverse : up lever (p .word) ≡ false → ((p .kind ≡ terminus → ⊥) → up L (p .word) ≡ true)
+  reverse : up lever (p .word) ≡ false → ((form p ≡ terminus → ⊥) → up L (p .word) ≡ true)
       → Taken i j p o 1 (pair (wordTo (raise signal (raise lever (p .word))) p) o)
   -- 2. Lever to normal: 'signal closes'
   normalise : up lever (p .word) ≡ true → Taken i j p o 2 (pair (wordTo (lower signal (lower lever (p .word))) p) o)
-  -- 3. Passage pedal: 'if An is up and KPg down, KPg rises and q grows by 1'
-  pass : (p .kind ≡ origin → ⊥) → up An (p .word) ≡ true → up KPg (p .word) ≡ false
+  -- 3. Passage pedal: 'if An is up and KPg down, KPg rises and q grows by 1'; at a short post 'event 3 asks only that KPg be down'
+  pass : (form p ≡ origin → ⊥) → (isShort (p .kind) || up An (p .word)) ≡ true → up KPg (p .word) ≡ false
       → Taken i j p o 3 (pair (more-q (wordTo (raise KPg (p .word)) p)) o)
   -- 'Otherwise taken with no effect.'
-  pass-idle : (p .kind ≡ origin → ⊥) → (up An (p .word) ≡ true → up KPg (p .word) ≡ true) → Taken i j p o 3 (pair p o)
+  pass-idle : (form p ≡ origin → ⊥) → ((isShort (p .kind) || up An (p .word)) ≡ true → up KPg (p .word) ≡ true)
+      → Taken i j p o 3 (pair p o)
   -- 4. Signal pedal: 'if the lever is reversed, the signal closes, and at kinds 0 and 2 L drops'
-  strike-block : blocksAtPedal (p .kind) ≡ true → up lever (p .word) ≡ true
+  strike-block : blocksAtPedal (form p) ≡ true → up lever (p .word) ≡ true
       → Taken i j p o 4 (pair (wordTo (lower L (lower signal (p .word))) p) o)
   -- the same at the terminus, where L does not drop
-  strike-close : p .kind ≡ terminus → up lever (p .word) ≡ true → Taken i j p o 4 (pair (wordTo (lower signal (p .word)) p) o)
+  strike-close : form p ≡ terminus → up lever (p .word) ≡ true → Taken i j p o 4 (pair (wordTo (lower signal (p .word)) p) o)
   -- 'With a normal lever, taken with no effect.'
-  strike-idle : hasSignalPedal (p .kind) ≡ true → up lever (p .word) ≡ false → Taken i j p o 4 (pair p o)
+  strike-idle : hasSignalPedal (form p) ≡ true → up lever (p .word) ≡ false → Taken i j p o 4 (pair p o)
   -- 5. Announce: 'RL and L drop, W314 rises, a grows by 1.'
-  announce : (p .kind ≡ terminus → ⊥) → up RL (p .word) ≡ true → up lever (p .word) ≡ false
+  announce : (form p ≡ terminus → ⊥) → up RL (p .word) ≡ true → up lever (p .word) ≡ false
       → Taken i j p o 5 (pair (more-a (wordTo (raise W314 (lower L (lower RL (p .word)))) p)) o)
   -- 6. Release: 'An and KPg drop, W241 of the section upstream rises, e grows by 1.'
-  release : i ≡ j + 1 → (p .kind ≡ origin → ⊥) → up jam (p .word) ≡ false → up An (p .word) ≡ true → up KPg (p .word) ≡ true
-      → (p .kind ≡ terminus → up lever (p .word) ≡ false)
-      → ((p .kind ≡ terminus → ⊥) → up RL (p .word) ≡ false)
+  release : i ≡ j + 1 → (form p ≡ origin → ⊥) → up jam (p .word) ≡ false → up An (p .word) ≡ true → up KPg (p .word) ≡ true
+      → (form p ≡ terminus → up lever (p .word) ≡ false)
+      → ((form p ≡ terminus → ⊥) → up RL (p .word) ≡ false)
       → Taken i j p o 6 (pair (sentBack (p .c) p) (underWay o))
   -- 7. Garage release: 'As 6, and c grows by 1.'
-  garage : i ≡ j + 1 → hasGarageRelease (p .kind) ≡ true → up jam (p .word) ≡ false → up An (p .word) ≡ true → up KPg (p .word) ≡ true
+  garage : i ≡ j + 1 → hasGarageRelease (form p) ≡ true → up jam (p .word) ≡ false → up An (p .word) ≡ true → up KPg (p .word) ≡ true
       → Taken i j p o 7 (pair (sentBack (grown (p .c)) p) (underWay o))
   -- 8. Arrival: 'W314: it drops, An downstream rises, r grows by 1.'
   announcement-arrives : j ≡ i + 1 → up W314 (p .word) ≡ true → up jam (o .word) ≡ false
@@ -78,9 +79,9 @@ pub data Taken (i j : ℕ) (p o : Post) : ℕ → Pair → Type 0 where
   restore : j ≡ i + 1 → up RL (p .word) ≡ false → up W314 (p .word) ≡ false → up W241 (p .word) ≡ false → up An (o .word) ≡ false
       → Taken i j p o 10 (pair (more-g (wordTo (raise RL (raise L (p .word))) p)) o)
   -- 11. The button jams
-  button-jams : (p .kind ≡ origin → ⊥) → up jam (p .word) ≡ false → Taken i j p o 11 (pair (wordTo (raise jam (p .word)) p) o)
+  button-jams : (form p ≡ origin → ⊥) → up jam (p .word) ≡ false → Taken i j p o 11 (pair (wordTo (raise jam (p .word)) p) o)
   -- 12. It is freed
-  button-freed : (p .kind ≡ origin → ⊥) → up jam (p .word) ≡ true → Taken i j p o 12 (pair (wordTo (lower jam (p .word)) p) o)
+  button-freed : (form p ≡ origin → ⊥) → up jam (p .word) ≡ true → Taken i j p o 12 (pair (wordTo (lower jam (p .word)) p) o)
 
 -- ---- each event that is taken is in one of its cases
 -- a garage release is at kind 2 or 3
@@ -91,7 +92,7 @@ garage-kind k = or-facts (eqb k 2) (eqb k 3) (λ e. omega (arith, eqb-true)) (λ
 -- what is known of event n where neither 6, 22 or 23 nor one of its own list is given
 abbrev Unrefused : Post → Post → ℕ → Type 0
 Unrefused p o n =
-    (lacks n (p .kind) ≡ false) × (ownRefusal n (p .kind) (p .word) (o .word) ≡ 0)
+    (lacks n (form p) ≡ false) × (ownRefusal n (form p) (p .word) (o .word) ≡ 0)
     × (jamHinders n (p .word) ≡ false)
     × (nothingToFree n (p .word) ≡ false)
 
@@ -103,7 +104,7 @@ own-iff p o n = (
 )
 
 -- event by event, p being post i: here alone the event's number tells where its neighbour lies
-module _ (i : ℕ) (p o : Post) (first : i ≡ 0 → p .kind ≡ origin) where
+module _ (i : ℕ) (p o : Post) (first : i ≡ 0 → form p ≡ origin) where
   -- event n there, in a case that leaves the two as b
   abbrev Case : ℕ → Pair → Type 0
   Case n b = Taken i (neighbour n i) p o n b
@@ -114,7 +115,7 @@ module _ (i : ℕ) (p o : Post) (first : i ≡ 0 → p .kind ≡ origin) where
 
   is-reverse : Is 1
   unfolding changed ownRefusal reversed
-  is-reverse e = let f = reverse-iff (p .kind) (p .word) .0 (e .1) in reverse (f .0) (f .1)
+  is-reverse e = let f = reverse-iff (form p) (p .word) .0 (e .1) in reverse (f .0) (f .1)
 
   is-normal : Is 2
   unfolding changed ownRefusal normal
@@ -124,17 +125,17 @@ module _ (i : ℕ) (p o : Post) (first : i ≡ 0 → p .kind ≡ origin) where
   unfolding changed lacks passed hasPassagePedal
   is-pass e =
       let f = simp facts at (e .0) in
-      by (λ q. Case 3 (pair q o)) (up An (p .word) && not (up KPg (p .word)))
+      by (λ q. Case 3 (pair q o)) ((isShort (p .kind) || up An (p .word)) && not (up KPg (p .word)))
       (λ b. let g = simp facts at b in pass f (g .0) (g .1))
       (λ b. pass-idle f (simp facts at b))
 
   -- the signal pedal of a post that does not block at it is the terminus's
-  closes : hasSignalPedal (p .kind) ≡ true → blocksAtPedal (p .kind) ≡ false → p .kind ≡ terminus
+  closes : hasSignalPedal (form p) ≡ true → blocksAtPedal (form p) ≡ false → form p ≡ terminus
   unfolding hasSignalPedal blocksAtPedal
   closes e c =
       let g = simp facts at c in
-      or-facts (eqb (p .kind) 0) (eqb (p .kind) 1 || eqb (p .kind) 2) (λ z. omega (arith, eqb-true))
-      (or-facts (eqb (p .kind) 1) (eqb (p .kind) 2) (λ z. omega (arith, eqb-true)) (λ z. omega (arith, eqb-true)))
+      or-facts (eqb (form p) 0) (eqb (form p) 1 || eqb (form p) 2) (λ z. omega (arith, eqb-true))
+      (or-facts (eqb (form p) 1) (eqb (form p) 2) (λ z. omega (arith, eqb-true)) (λ z. omega (arith, eqb-true)))
       e
 
   is-strike : Is 4
@@ -143,7 +144,7 @@ module _ (i : ℕ) (p o : Post) (first : i ≡ 0 → p .kind ≡ origin) where
       let f = simp facts at (e .0) in
       by (λ q. Case 4 (pair q o)) (up lever (p .word))
       (λ b.
-      by (λ q. Case 4 (pair q o)) (blocksAtPedal (p .kind))
+      by (λ q. Case 4 (pair q o)) (blocksAtPedal (form p))
       (λ c. strike-block c b)
       (λ c. strike-close (closes f c) b))
       (λ b. strike-idle f b)
@@ -157,7 +158,7 @@ module _ (i : ℕ) (p o : Post) (first : i ≡ 0 → p .kind ≡ origin) where
   is-release : Is 6
   unfolding changed lacks jamHinders ownRefusal released releaseUnderWay namesSection
   is-release e =
-      let f = release-iff (p .kind) (p .word) .0 (e .1) in
+      let f = release-iff (form p) (p .word) .0 (e .1) in
       let k = simp facts at (e .0) in
       release (neighbour-post 6 i refl (λ z. k (first z))) k (e .2) (f .0) (f .1 .0) (f .1 .1 .0) (f .1 .1 .1)
 
@@ -166,7 +167,7 @@ module _ (i : ℕ) (p o : Post) (first : i ≡ 0 → p .kind ≡ origin) where
   is-garage e =
       let f = garage-iff (p .word) .0 (e .1) in
       let k = simp facts at (e .0) in
-      garage (neighbour-post 7 i refl (λ z. omega (arith, first z, garage-kind (p .kind) k))) k (e .2) (f .0) (f .1)
+      garage (neighbour-post 7 i refl (λ z. omega (arith, first z, garage-kind (form p) k))) k (e .2) (f .0) (f .1)
 
   is-arrival : Is 8
   unfolding changed ownRefusal arrived namesSection
@@ -232,18 +233,18 @@ pedal-there k = or-facts (eqb k 0) (eqb k 2) (λ e. rw (eqb-true k 0 e)) (λ e. 
 -- each case
 pub case-taken : {p o : Post} {i j n : ℕ} {b : Pair} → Taken i j p o n b → Made p o n b
 unfolding changed lacks jamHinders nothingToFree ownRefusal reversed normal passed struck announced released garaged releaseUnderWay arrived lost restored jammed freed hasPassagePedal hasSignalPedal blocksAtPedal
-case-taken {p} {o} (reverse a b) = (own-iff p o 1 .1 (refl, reverse-iff (p .kind) (p .word) .1 (a, b), refl, refl), refl)
+case-taken {p} {o} (reverse a b) = (own-iff p o 1 .1 (refl, reverse-iff (form p) (p .word) .1 (a, b), refl, refl), refl)
 case-taken {p} {o} (normalise a) = (own-iff p o 2 .1 (refl, normal-iff (p .word) .1 a, refl, refl), refl)
 case-taken {p} {o} (pass a b c) = (own-iff p o 3 .1 (simp facts a, refl, refl, refl), rw (b, c))
 case-taken {p} {o} (pass-idle a b) =
-    let z : (up An (p .word) && not (up KPg (p .word))) ≡ false = simp facts b in
+    let z : ((isShort (p .kind) || up An (p .word)) && not (up KPg (p .word))) ≡ false = simp facts b in
     (own-iff p o 3 .1 (simp facts a, refl, refl, refl), rw z)
-case-taken {p} {o} (strike-block a b) = (own-iff p o 4 .1 (pedal-there (p .kind) a, refl, refl, refl), rw (b, a))
+case-taken {p} {o} (strike-block a b) = (own-iff p o 4 .1 (pedal-there (form p) a, refl, refl, refl), rw (b, a))
 case-taken {p} {o} (strike-close a b) = (own-iff p o 4 .1 (rw a, refl, refl, refl), rw (b, a))
 case-taken {p} {o} (strike-idle a b) = (own-iff p o 4 .1 (simp facts a, refl, refl, refl), rw b)
 case-taken {p} {o} (announce a b c) = (own-iff p o 5 .1 (simp facts a, announce-iff (p .word) .1 (b, c), refl, refl), refl)
 case-taken {p} {o} (release k a m b c d e) =
-    (own-iff p o 6 .1 (simp facts a, release-iff (p .kind) (p .word) .1 (b, (c, (d, e))), m, refl), refl)
+    (own-iff p o 6 .1 (simp facts a, release-iff (form p) (p .word) .1 (b, (c, (d, e))), m, refl), refl)
 case-taken {p} {o} (garage k a m b c) = (own-iff p o 7 .1 (simp facts a, garage-iff (p .word) .1 (b, c), m, refl), refl)
 case-taken {p} {o} (announcement-arrives k a b) =
     (own-iff p o 8 .1 (refl, under-way-iff (p .word) .1 (λ z. absurd (false≢true (sym z ∙ a))), refl, refl), rw (a, b))

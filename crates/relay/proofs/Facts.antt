@@ -12,8 +12,8 @@ use borrow.Author.Tests.{eqb-true}
 use lib.Dec.{eqb}
 use lib.ListN.{length}
 use Rattle.relay.specs.Choice.{one}
-use Rattle.relay.specs.Kinds.{origin, terminus, intermediate, blocksAtPedal, blocksAtAnnouncement, between, countFits, kindFits}
-use Rattle.relay.specs.Posts.{at}
+use Rattle.relay.specs.Kinds.{origin, terminus, intermediate, isShort, ordinary, blocksAtPedal, blocksAtAnnouncement, between, countFits, kindFits}
+use Rattle.relay.specs.Posts.{at, form}
 use Rattle.relay.specs.Relays.{An, KPg, L, RL, lever, signal, W314, W241, jam, width, up}
 use Rattle.relay.specs.Valid.{noOtherBits, staysDown, heldIsLocked, pedalBlocks, announcementBlocks, openIsReversed, passageIsAnnounced, wordOk, staysZero, countsWithin, postOk, h, holds, announcementsAgree, releasesAgree, recordedAgree, passagesAgree, garageWithin, oneAtMost, sectionOk, postsOk, sectionsFrom, sectionsOk, mostEvents, valid}
 use Rattle.relay.specs.declared.Head.{Head}
@@ -22,7 +22,7 @@ use Rattle.relay.proofs.Truth.{facts, and-facts, or-facts, held-iff, up
 
 -- ZeroOk, Within and SectionOk are written out and not declared, so that a record with other fields altered has the very same facts.
 
--- ---- the kind k of post i of n
+-- ---- the kind of post i of n, by its ordinary form k
 pub record KindOk (n i k : ℕ) : Type 0 where
   -- 'Post 0 has kind 0'
   pub first : i ≡ 0 → k ≡ origin
@@ -41,7 +41,7 @@ between-iff k = (
 )
 
 -- the test of a kind is these facts
-pub kind-iff : (n i k : ℕ) → (kindFits n i k ≡ true) ↔ KindOk n i k
+pub kind-iff : (n i k : ℕ) → (kindFits n i k ≡ true) ↔ KindOk n i (ordinary k)
 unfolding kindFits
 kind-iff n i k = (
   λ t. let f = simp (facts, between-iff) at t in record { first = f .0; last = λ z. f .1 z .0; middle = λ z. f .1 z .1 },
@@ -53,19 +53,19 @@ pub record WordOk (k w : ℕ) : Type 0 where
   -- 'All other bits are zero.'
   pub no-others : w < 2 ^ width
   -- 'An and KPg stay down at the origin', and the jam
-  pub origin-down : k ≡ origin → (up An w ≡ false) × ((up KPg w ≡ false) × (up jam w ≡ false))
+  pub origin-down : ordinary k ≡ origin → (up An w ≡ false) × ((up KPg w ≡ false) × (up jam w ≡ false))
   -- 'L, RL and both W bits stay down at the terminus'
-  pub terminus-down : k ≡ terminus → (up L w ≡ false) × (up RL w ≡ false) × (up W314 w ≡ false) × (up W241 w ≡ false)
+  pub terminus-down : ordinary k ≡ terminus → (up L w ≡ false) × (up RL w ≡ false) × (up W314 w ≡ false) × (up W241 w ≡ false)
   -- 'For each post but the terminus: RL down requires L down and lever normal.'
-  pub held-locked : (k ≡ terminus → ⊥) → up RL w ≡ false → (up L w ≡ false) × (up lever w ≡ false)
+  pub held-locked : (ordinary k ≡ terminus → ⊥) → up RL w ≡ false → (up L w ≡ false) × (up lever w ≡ false)
   -- 'At kinds 0 and 2, a reversed lever has its signal open exactly when L is up.'
-  pub pedal-blocks : blocksAtPedal k ≡ true → up lever w ≡ true → up signal w ≡ up L w
+  pub pedal-blocks : blocksAtPedal (ordinary k) ≡ true → up lever w ≡ true → up signal w ≡ up L w
   -- 'At kinds 3 and 4, L equals RL and signal equals lever.'
-  pub announcement-blocks : blocksAtAnnouncement k ≡ true → (up L w ≡ up RL w) × (up signal w ≡ up lever w)
+  pub announcement-blocks : blocksAtAnnouncement (ordinary k) ≡ true → (up L w ≡ up RL w) × (up signal w ≡ up lever w)
   -- 'Everywhere, an open signal requires a reversed lever.'
   pub open-reversed : up signal w ≡ true → up lever w ≡ true
-  -- 'KPg requires An.'
-  pub passage-announced : up KPg w ≡ true → up An w ≡ true
+  -- 'KPg requires An.', at ordinary posts
+  pub passage-announced : isShort k ≡ false → up KPg w ≡ true → up An w ≡ true
 
 -- the test of a word is these facts
 pub word-iff : (k w : ℕ) → (wordOk k w ≡ true) ↔ WordOk k w
@@ -99,12 +99,12 @@ abbrev pub ZeroOk : Post → Type 0
 ZeroOk p =
     record {
       -- none of a section upstream at the origin
-      origin-zero : p .kind ≡ origin → (p .r ≡ 0) × ((p .q ≡ 0) × ((p .e ≡ 0) × (p .c ≡ 0)));
+      origin-zero : form p ≡ origin → (p .r ≡ 0) × ((p .q ≡ 0) × ((p .e ≡ 0) × (p .c ≡ 0)));
       -- none of a section downstream at the terminus
-      terminus-zero : p .kind ≡ terminus → (p .a ≡ 0) × ((p .x ≡ 0) × ((p .y ≡ 0) × ((p .v ≡ 0) × (p .g ≡ 0))));
+      terminus-zero : form p ≡ terminus → (p .a ≡ 0) × ((p .x ≡ 0) × ((p .y ≡ 0) × ((p .v ≡ 0) × (p .g ≡ 0))));
       -- 'c also at kinds 1 and 4'
-      terminus-garage : p .kind ≡ terminus → p .c ≡ 0;
-      intermediate-garage : p .kind ≡ intermediate → p .c ≡ 0;
+      terminus-garage : form p ≡ terminus → p .c ≡ 0;
+      intermediate-garage : form p ≡ intermediate → p .c ≡ 0;
     }
 
 -- the test that counts stay zero is these facts
@@ -143,7 +143,7 @@ within-iff t p = (
 -- ---- post i of n, with t events taken
 pub record PostOk (n i t : ℕ) (p : Post) : Type 0 where
   -- 'its kinds are right'
-  pub kind : KindOk n i (p .kind)
+  pub kind : KindOk n i (form p)
   -- the rules of one word
   pub word : WordOk (p .kind) (p .word)
   -- 'every bit and count said above to stay down or zero does so'

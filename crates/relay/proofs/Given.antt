@@ -6,22 +6,23 @@ use mathlib.Core.Bool.{Bool, true, false, not, _&&_, _||_, or-false, or-true, an
 use mathlib.Core.List.{List, [], _∷_}
 use mathlib.Core.Logic.{_↔_}
 use native.Mathlib.Omega.{arith}
-use borrow.Author.Tests.{eq-eqb, ne-eqb, le-leb, lt-leb, lt-ltb, le-ltb}
+use borrow.Author.Tests.{eq-eqb, ne-eqb, le-leb, lt-leb, lt-ltb, ltb-true, le-ltb}
 use lib.Dec.{eqb, leb, ltb}
 use lib.ListN.{length}
-use Rattle.relay.specs.Choice.{pick}
+use Rattle.relay.specs.Choice.{pick, same}
 use Rattle.relay.specs.Clock.{apart, behind}
 use Rattle.relay.specs.Events.{refusal, lacks, jamHinders, nothingToFree, ownRefusal, reverseRefusal, normalRefusal, announceRefusal, releaseRefusal, garageRefusal, underWayRefusal, restoreRefusal}
-use Rattle.relay.specs.Given.{Row, eventReasons, reasons, givenBy, given, othersRight, kindsRight, tableWrong, startReasons}
-use Rattle.relay.specs.Kinds.{hasSignalPedal, hasPassagePedal, hasGarageRelease, between, countFits, kindFits, kindsFit, tableOk}
+use Rattle.relay.specs.Given.{Row, refusedAs, eventReasons, reasons, givenBy, given, lastRight, otherRight, othersRight, kindsRight, tableWrong, startReasons}
+use Rattle.relay.specs.Kinds.{isShort, ordinary, hasSignalPedal, hasPassagePedal, hasGarageRelease, between, countFits, kindFits, kindsFit, tableOk}
 use Rattle.relay.specs.Line.{lastEvent, numbered, namesSection, present, neighbour, gate, answerOf, After, startable, startOf}
-use Rattle.relay.specs.Posts.{at}
+use Rattle.relay.specs.Posts.{at, form}
 use Rattle.relay.specs.Valid.{valid}
 use Rattle.relay.specs.declared.Head.{Head}
 use Rattle.relay.specs.declared.Post.{Post}
 use Rattle.relay.proofs.Facts.{valid-iff}
+use Rattle.relay.proofs.Forms.{small-form}
 use Rattle.relay.proofs.KeptPosts.{kind-small}
-use Rattle.relay.proofs.Truth.{facts, and-facts, not-facts, not-false-facts, eqb-facts, split, equal-or-not, least-or-below, from}
+use Rattle.relay.proofs.Truth.{facts, and-facts, not-facts, not-false-facts, eqb-facts, split, equal-or-not, least-or-below, from, every, every-one}
 
 -- ---- the table as a list of refusals
 -- the number of the first reason that holds, 0 where none does
@@ -103,6 +104,24 @@ given-ahead j k (r ∷ rs) a e =
     (λ b. rw b (not-facts (r .reason) .0 (g .0)))
     (λ b. rw b (given-ahead j k rs (rw b at (f .1)) (g .1)))
 
+-- ---- the two forms of a kind
+-- both readings of them, and of where they stand in a table, agree
+abbrev Alike : ℕ → Bool
+Alike k =
+    eqb (ordinary k) (refusedAs k)
+    && (same (eqb (ordinary k) 0) (eqb k 0)
+    && (same (eqb (ordinary k) 1) (lastRight k) && same (between (ordinary k)) (otherRight k)))
+
+-- on the numbers up to 20, which is computed; past them there is no kind
+pub forms : (k : ℕ) → (ordinary k ≡ refusedAs k) × ((eqb (ordinary k) 0 ≡ eqb k 0) × ((eqb (ordinary k) 1 ≡ lastRight k) × (between (ordinary k) ≡ otherRight k)))
+unfolding ordinary isShort between refusedAs lastRight otherRight every
+forms k =
+    least-or-below 21 k
+    (λ h.
+    let none : (c : ℕ) → ltb c 21 ≡ true → eqb k c ≡ false = λ c e. ne-eqb k c (λ z. omega (arith, ltb-true c 21 e)) in
+    rw (le-leb 17 k (omega arith), lt-leb k 20 (omega arith)) (simp none (refl, (refl, (refl, refl)))))
+    (λ h. simp facts at (every-one 21 Alike refl k h))
+
 -- ---- 6 and the event's own list
 -- what holds of each kind 0 to 4
 kinds : (P : ℕ → Type 0) → P 0 → P 1 → P 2 → P 3 → P 4 → (k : ℕ) → k < 5 → P k
@@ -120,7 +139,7 @@ module _ (l : List Post) (i w : ℕ) where
 
   -- every event number
   own : (n : ℕ) → 1 ≤ n → n ≤ lastEvent → AtAll n
-  unfolding first eventReasons refusal lacks jamHinders nothingToFree ownRefusal reverseRefusal normalRefusal announceRefusal releaseRefusal garageRefusal underWayRefusal restoreRefusal hasPassagePedal hasSignalPedal hasGarageRelease neighbour namesSection
+  unfolding first eventReasons refusal ordinary isShort lacks jamHinders nothingToFree ownRefusal reverseRefusal normalRefusal announceRefusal releaseRefusal garageRefusal underWayRefusal restoreRefusal hasPassagePedal hasSignalPedal hasGarageRelease neighbour namesSection
   own =
       from AtAll lastEvent 1 (kinds (At 1) (simp or-false) (simp or-false) (simp or-false) (simp or-false) (simp or-false))
       (from AtAll lastEvent 2 (kinds (At 2) refl refl refl refl refl)
@@ -134,6 +153,12 @@ module _ (l : List Post) (i w : ℕ) where
       (from AtAll lastEvent 10 (kinds (At 10) refl refl refl refl refl)
       (from AtAll lastEvent 11 (kinds (At 11) refl refl refl refl refl)
       (from AtAll lastEvent 12 (kinds (At 12) refl refl refl refl refl) (λ n x y. absurd (omega arith)))))))))))))
+
+  -- and every kind, by its ordinary form
+  own-form : (n : ℕ) → 1 ≤ n → n ≤ lastEvent → (k : ℕ) → ordinary k < 5
+      → refusal n k w (at l (neighbour n i) .word) ≡ first (eventReasons n (refusedAs k) w (at l (i + 1) .word))
+  unfolding refusal
+  own-form n a b k h = rw (← forms k .0) (rw (small-form (ordinary k) h) at (own n a b (ordinary k) h))
 
 -- ---- 1, 3, 2, 5 and 4
 -- one list, then another: the first's numbers go first
@@ -173,10 +198,10 @@ stamp u t =
     (λ h. rw (le-ltb (apart u t) (2 ^ 31) h, le-leb (2 ^ 31) (apart u t) h))
     (λ h. rw (lt-ltb (apart u t) (2 ^ 31) h, lt-leb (2 ^ 31) (apart u t) h) (le-ltb (apart u t) 0 (omega arith)))
 
--- the post named is of a kind 0 to 4
-kind-there : (l : List Post) (s : Head) (i : ℕ) → not (valid l s) ≡ false → i < length l → at l i .kind < 5
+-- the post named is of a kind 0 to 4, in its ordinary form
+kind-there : (l : List Post) (s : Head) (i : ℕ) → not (valid l s) ≡ false → i < length l → form (at l i) < 5
 kind-there l s i v p =
-    kind-small (length l) i (at l i .kind)
+    kind-small (length l) i (form (at l i))
     (valid-iff l s .0 (simp not-false-facts at v) .each i p .kind)
 
 -- the answer is the first number of the table whose reason holds
@@ -196,7 +221,7 @@ answer-first l s n i t =
     (λ f.
     rw stamp
     (past (leb (2 ^ 31) ((t + 2 ^ 32 - s .last) % 2 ^ 32)) 4
-    (λ b. own l i (at l i .word) n (h .0) (h .1) (at l i .kind) (kind-there l s i v (simp facts at p .0))))))))))
+    (λ b. own-form l i (at l i .word) n (h .0) (h .1) (at l i .kind) (kind-there l s i v (simp facts at p .0))))))))))
 
 -- ---- by the number
 -- 'Given exactly when': the answer is k exactly when the paper's table gives k
@@ -213,12 +238,13 @@ one-given l s n i t =
 -- ---- on starting
 -- the posts past the first
 others : (n i : ℕ) (ks : List ℕ) → 1 ≤ i → 1 ≤ length ks → i + length ks ≡ n → kindsFit n i ks ≡ othersRight ks
-unfolding kindsFit othersRight kindFits between
+unfolding kindsFit othersRight kindFits
 others n i [] a b e = absurd (omega arith)
-others n i (k ∷ []) a b e = rw (ne-eqb i 0 (λ z. omega arith), eq-eqb (i + 1) n (omega arith)) (and-true (eqb k 1))
+others n i (k ∷ []) a b e =
+    rw (ne-eqb i 0 (λ z. omega arith), eq-eqb (i + 1) n (omega arith), forms k .1 .1 .0) (and-true (lastRight k))
 others n i (k ∷ j ∷ ks) a b e =
-    rw (ne-eqb i 0 (λ z. omega arith), ne-eqb (i + 1) n (λ z. omega arith))
-    (ap (λ (t : Bool). between k && t) (others n (i + 1) (j ∷ ks) (omega arith) (omega arith) (omega arith)))
+    rw (ne-eqb i 0 (λ z. omega arith), ne-eqb (i + 1) n (λ z. omega arith), forms k .1 .1 .1)
+    (ap (λ (t : Bool). otherRight k && t) (others n (i + 1) (j ∷ ks) (omega arith) (omega arith) (omega arith)))
 
 -- not both
 pub not-both : (a b : Bool) → not (a && b) ≡ (not a || not b)
@@ -234,7 +260,7 @@ table-wrong [] = refl
 table-wrong (k ∷ []) = refl
 table-wrong (k ∷ j ∷ ks) =
     let n = length (k ∷ j ∷ ks) in
-    rw (← others n 1 (j ∷ ks) (omega arith) (omega arith) (omega arith)) (not-both (leb 2 n && leb n 32) (eqb k 0 && kindsFit n 1 (j ∷ ks)))
+    rw (← others n 1 (j ∷ ks) (omega arith) (omega arith) (omega arith), forms k .1 .0) (not-both (leb 2 n && leb n 32) (eqb k 0 && kindsFit n 1 (j ∷ ks)))
 
 -- the answer by two tests that must both pass
 either-fails : (a b : Bool) (x y : After) → pick (a && b) x y .told .answer ≡ pick (not a || not b) (y .told .answer) (x .told .answer)

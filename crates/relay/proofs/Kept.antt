@@ -9,7 +9,7 @@ use native.Mathlib.Omega.{arith}
 use lib.Dec.{eqb}
 use lib.ListN.{length}
 use Rattle.relay.specs.Choice.{requires}
-use Rattle.relay.specs.Kinds.{terminus, kindFits, kindsFit, tableOk}
+use Rattle.relay.specs.Kinds.{terminus, ordinary, kindFits, kindsFit, tableOk}
 use Rattle.relay.specs.Line.{head, freshLine, startable, startOf, eventOf}
 use Rattle.relay.specs.Posts.{freshWord, freshPost, at}
 use Rattle.relay.specs.Relays.{lower}
@@ -20,11 +20,12 @@ use Rattle.relay.specs.declared.Post.{Post}
 use Rattle.relay.proofs.Accepted.{event-cases}
 use Rattle.relay.proofs.Cases.{accepted-case}
 use Rattle.relay.proofs.Facts.{PostOk, SectionOk, ValidLine, valid-iff, kind-iff}
+use Rattle.relay.proofs.Forms.{everyKind, every-kind}
 use Rattle.relay.proofs.Frame.{Replaced, swapped, taken-replaces, neighbour-beside, neighbour-within}
 use Rattle.relay.proofs.Fresh.{length-fresh}
 use Rattle.relay.proofs.KeptPosts.{kind-small, not-terminus, Two, later, Kept, single, back, onward, keeps}
 use Rattle.relay.proofs.Rules.{rules}
-use Rattle.relay.proofs.Truth.{facts, and-facts, requires-facts, every, every-one, equal-or-not, split}
+use Rattle.relay.proofs.Truth.{facts, and-facts, requires-facts, every, equal-or-not, split}
 
 -- ---- the line
 -- the section between two neighbours
@@ -105,21 +106,21 @@ unfolding postOk freshPost
 fresh-post n i k e =
     and-facts _ _ .1 (
       e,
-      every-one 5 (λ k. wordOk k (freshWord k) && (staysZero (freshPost k) && countsWithin 0 (freshPost k))) (unfold rules every in refl) k
-          (kind-small n i k (kind-iff n i k .0 e)),
+      every-kind (λ k. wordOk k (freshWord k) && (staysZero (freshPost k) && countsWithin 0 (freshPost k))) (unfold rules everyKind every in refl) k
+          (kind-small n i (ordinary k) (kind-iff n i k .0 e)),
     )
 
 -- two fresh posts keep the rules of the section between them
 fresh-section : (n i k j : ℕ) → i + 1 < n → kindFits n i k ≡ true → kindFits n (i + 1) j ≡ true → sectionOk (freshPost k) (freshPost j) ≡ true
 fresh-section n i k j h e f =
     let r = kind-iff n i k .0 e in
-    requires-facts (not (eqb k terminus)) (sectionOk (freshPost k) (freshPost j)) .0
-    (every-one 5 _
-    (every-one 5 (λ k. every 5 (λ j. requires (not (eqb k terminus)) (sectionOk (freshPost k) (freshPost j)))) (unfold rules every in refl) k
-    (kind-small n i k r))
+    requires-facts (not (eqb (ordinary k) terminus)) (sectionOk (freshPost k) (freshPost j)) .0
+    (every-kind _
+    (every-kind (λ k. everyKind (λ j. requires (not (eqb (ordinary k) terminus)) (sectionOk (freshPost k) (freshPost j)))) (unfold rules everyKind every in refl) k
+    (kind-small n i (ordinary k) r))
     j
-    (kind-small n (i + 1) j (kind-iff n (i + 1) j .0 f)))
-    (simp facts (not-terminus n i k r h))
+    (kind-small n (i + 1) (ordinary j) (kind-iff n (i + 1) j .0 f)))
+    (simp facts (not-terminus n i (ordinary k) r h))
 
 -- the posts of a fresh line, from post i on
 fresh-posts : (n i : ℕ) (ks : List ℕ) → kindsFit n i ks ≡ true → postsOk n i 0 (freshLine ks) ≡ true

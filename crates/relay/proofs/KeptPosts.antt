@@ -2,11 +2,11 @@
 -- Each holds case by case: the word by proofs/KeptWords.antt, the counts because one grows by 1 as the events taken do, and the equations of a section because what grows on one side grows on the other.
 use Prim.Native.Nat.{ℕ, _+_, _≤_, _<_}
 use mathlib.Core.Path.{_≡_, refl}
-use mathlib.Core.Bool.{Bool, true, false}
+use mathlib.Core.Bool.{Bool, true, false, _||_}
 use native.Mathlib.Omega.{arith}
 use Rattle.relay.specs.Choice.{one, grown}
-use Rattle.relay.specs.Kinds.{origin, terminus, intermediate}
-use Rattle.relay.specs.Posts.{post, wordTo, more-a, more-x, more-y, more-v, more-g, more-r, more-q}
+use Rattle.relay.specs.Kinds.{origin, terminus, intermediate, isShort}
+use Rattle.relay.specs.Posts.{post, form, wordTo, more-a, more-x, more-y, more-v, more-g, more-r, more-q}
 use Rattle.relay.specs.Relays.{An, KPg, L, RL, lever, W314, W241, up, raise, lower}
 use Rattle.relay.specs.Valid.{mostEvents}
 use Rattle.relay.specs.declared.Pair.{Pair}
@@ -67,14 +67,14 @@ alike w = (refl, refl, refl, refl, refl)
 module _ {n i t : ℕ} {p : Post} (r : PostOk n i t p) where
   -- its word, after a change that keeps the rules
   word : {c : ℕ → ℕ → Bool} {f : ℕ → ℕ} → Keeps c f → c (p .kind) (p .word) ≡ true → WordOk (p .kind) (f (p .word))
-  word k e = keeps-word k (kind-small n i (p .kind) (r .kind)) (r .word) e
+  word k e = keeps-word k (kind-small n i (form p) (r .kind)) (r .word) e
 
   -- in its word alone
   word-to : {w : ℕ} → WordOk (p .kind) w → PostOk n i (t + 1) (wordTo w p)
   word-to k = record { kind = r .kind; word = k; zeros = r .zeros; counts = omega (arith, r .counts) }
 
   -- in its word and what it keeps of the section downstream
-  up-to : {w a x y v g : ℕ} → (p .kind ≡ terminus → ⊥) → WordOk (p .kind) w
+  up-to : {w a x y v g : ℕ} → (form p ≡ terminus → ⊥) → WordOk (p .kind) w
       → Within (t + 1) (post w (p .kind) a x y v g (p .r) (p .q) (p .e) (p .c))
       → PostOk n i (t + 1) (post w (p .kind) a x y v g (p .r) (p .q) (p .e) (p .c))
   up-to z k c =
@@ -92,7 +92,7 @@ module _ {n i t : ℕ} {p : Post} (r : PostOk n i t p) where
       }
 
   -- in its word and what it keeps of the section upstream
-  down-to : {w f q e c : ℕ} → (p .kind ≡ origin → ⊥) → (p .kind ≡ terminus → c ≡ 0) → (p .kind ≡ intermediate → c ≡ 0)
+  down-to : {w f q e c : ℕ} → (form p ≡ origin → ⊥) → (form p ≡ terminus → c ≡ 0) → (form p ≡ intermediate → c ≡ 0)
       → WordOk (p .kind) w
       → Within (t + 1) (post w (p .kind) (p .a) (p .x) (p .y) (p .v) (p .g) f q e c)
       → PostOk n i (t + 1) (post w (p .kind) (p .a) (p .x) (p .y) (p .v) (p .g) f q e c)
@@ -120,7 +120,7 @@ module _ {n i t : ℕ} {p : Post} (r : PostOk n i t p) where
   idle = record { post = later (omega arith) r; above = λ x s. s; below = λ y s. s }
 
   -- 3. a passage is recorded
-  passes : t < mostEvents → (p .kind ≡ origin → ⊥) → up An (p .word) ≡ true → up KPg (p .word) ≡ false
+  passes : t < mostEvents → (form p ≡ origin → ⊥) → (isShort (p .kind) || up An (p .word)) ≡ true → up KPg (p .word) ≡ false
       → One n i t p (more-q (wordTo (raise KPg (p .word)) p))
   passes room k a b =
       record {
@@ -132,7 +132,7 @@ module _ {n i t : ℕ} {p : Post} (r : PostOk n i t p) where
       }
 
   -- 5. an announcement is sent
-  announces : t < mostEvents → (p .kind ≡ terminus → ⊥) → up RL (p .word) ≡ true → up lever (p .word) ≡ false
+  announces : t < mostEvents → (form p ≡ terminus → ⊥) → up RL (p .word) ≡ true → up lever (p .word) ≡ false
       → One n i t p (more-a (wordTo (raise W314 (lower L (lower RL (p .word)))) p))
   announces room k a b =
       record {
@@ -144,11 +144,11 @@ module _ {n i t : ℕ} {p : Post} (r : PostOk n i t p) where
 -- ---- two neighbours are altered, u upstream and d downstream
 module _ {n i j t : ℕ} {u d : Post} (room : t < mostEvents) (next : j ≡ i + 1) (fits : j < n) (U : PostOk n i t u) (D : PostOk n j t d) (s : SectionOk u d) where
   -- the upstream post is not the terminus, the downstream post not the origin
-  u-kind : u .kind ≡ terminus → ⊥
-  u-kind = not-terminus n i (u .kind) (U .kind) (omega arith)
+  u-kind : form u ≡ terminus → ⊥
+  u-kind = not-terminus n i (form u) (U .kind) (omega arith)
 
-  d-kind : d .kind ≡ origin → ⊥
-  d-kind = not-origin n j (d .kind) (D .kind) (omega arith)
+  d-kind : form d ≡ origin → ⊥
+  d-kind = not-origin n j (form d) (D .kind) (omega arith)
 
   -- where An, W314 or W241 is up RL is down
   held : 1 ≤ one (up An (d .word)) + one (up W314 (u .word)) + one (up W241 (u .word)) → up RL (u .word) ≡ false
@@ -169,7 +169,7 @@ module _ {n i j t : ℕ} {u d : Post} (room : t < mostEvents) (next : j ≡ i + 
       }
 
   -- 6 and 7, with c afterwards
-  sends-back : (c : ℕ) → c ≤ d .c + 1 → (d .kind ≡ terminus → c ≡ 0) → (d .kind ≡ intermediate → c ≡ 0)
+  sends-back : (c : ℕ) → c ≤ d .c + 1 → (form d ≡ terminus → c ≡ 0) → (form d ≡ intermediate → c ≡ 0)
       → up An (d .word) ≡ true → up KPg (d .word) ≡ true
       → Two n i j t u d (underWay u) (sentBack c d)
   sends-back c m f g a b =
@@ -242,7 +242,7 @@ keeps room r (announce a b c) = single refl (announces r room a b c)
 keeps {p = p} room r (release k a m b c d e) =
     back k (λ f o s. sends-back room k f o r s (p .c) (omega arith) (r .zeros .terminus-garage) (r .zeros .intermediate-garage) b c)
 keeps {p = p} room r (garage k a m b c) =
-    let g = garage-kind (p .kind) a in
+    let g = garage-kind (form p) a in
     back k (λ f o s. sends-back room k f o r s (grown (p .c)) (omega arith) (λ z. absurd (omega arith)) (λ z. absurd (omega arith)) b c)
 keeps room r (announcement-arrives k a b) = onward k (λ f o s. announcement-in room k f r o s a)
 keeps room r (announcement-jammed k a b) = onward k (λ f o s. announcement-gone room k f r o s a)

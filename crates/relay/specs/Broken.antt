@@ -1,4 +1,4 @@
--- Each rule of a line that may be used, broken alone. 01, 'A line that may be used' and 'One post's relays', and 02, item 2: a table of lines, each a line that a
+-- Each rule of a line that may be used, broken alone. 01, 'A line that may be used' and 'One post's relays', and 02, items 2 and 5: a table of lines, each a line that a
 -- history left, with one or two posts altered by other hands so that one rule is broken and every other one still holds.
 -- That each of them breaks one rule and may not be used stands in proofs/Broken.antt. Rules that others imply cannot be broken alone and have
 -- no row: KPg at the origin (with An down it breaks 'KPg requires An'), and the counts but a within the events taken (none is greater than a).
@@ -13,7 +13,7 @@ use Rattle.relay.specs.Choice.{one}
 use Rattle.relay.specs.Examples.{Event, ev, afterAll}
 use Rattle.relay.specs.Kinds.{countFits, kindFits}
 use Rattle.relay.specs.Line.{head, freshLine}
-use Rattle.relay.specs.Posts.{at, post, wordTo, more-a, more-x, more-y, more-v, more-g, more-r, more-q, more-e, more-c}
+use Rattle.relay.specs.Posts.{at, post, form, wordTo, more-a, more-x, more-y, more-v, more-g, more-r, more-q, more-e, more-c}
 use Rattle.relay.specs.Reached.{line, started, released}
 use Rattle.relay.specs.Relays.{An, KPg, L, RL, lever, signal, W314, W241, jam, width, raise, lower}
 use Rattle.relay.specs.Valid.{noOtherBits, staysDown, heldIsLocked, pedalBlocks, announcementBlocks, openIsReversed, passageIsAnnounced, staysZero, countsWithin, holds, announcementsAgree, releasesAgree, recordedAgree, passagesAgree, garageWithin, oneAtMost, mostEvents, valid}
@@ -56,10 +56,15 @@ row es i f g = record { before = es; at = i; here = f; next = g }
 abbrev pub sent : List Event
 sent = ev 5 0 ∷ []
 
+-- the rules of both forms
 unfoldable pub table : List Row
 table =
-    -- 'Post 0 has kind 0, the last has kind 1, all others have 2, 3 or 4'
+    -- 'Post 0 has kind 0, the last has kind 1, all others have 2, 3 or 4', or a short form; the origin has none
     row [] 0 (kindTo 2) same
+    ∷ row [] 0 (kindTo 16) same
+    ∷ row [] 3 same (kindTo 20)
+    ∷ row [] 1 (kindTo 16) same
+    ∷ row [] 1 (kindTo 21) same
     ∷ row [] 3 same (kindTo 4)
     ∷ row [] 1 (kindTo 0) same
     ∷ row [] 1 (kindTo 5) same
@@ -109,8 +114,6 @@ table =
     ∷ row [] 3 (raised lever) same
     -- 'Everywhere, an open signal requires a reversed lever.'
     ∷ row [] 3 same (raised signal)
-    -- 'KPg requires An.'
-    ∷ row [] 0 same (λ p. more-q (raised KPg p))
     -- 'At most one of An (downstream), W314, W241 is up in a section'
     ∷ row sent 0 oneMore (λ p. more-r (raised An p))
     ∷ row sent 0 (λ p. oneMore (raised W241 p)) (λ p. more-r (more-q (more-e p)))
@@ -119,6 +122,15 @@ table =
     ∷ row [] 0 oneMore (λ p. more-r (raised An p))
     ∷ row [] 0 (λ p. oneMore (raised W314 p)) same
     ∷ row [] 0 (λ p. oneMore (raised W241 p)) (λ p. more-r (more-q (more-e p)))
+    ∷ []
+
+-- a passage waiting, with An down, at the post downstream of each section
+unfoldable pub passedEarly : List Row
+passedEarly =
+    row [] 0 same (λ p. more-q (raised KPg p))
+    ∷ row [] 1 same (λ p. more-q (raised KPg p))
+    ∷ row [] 2 same (λ p. more-q (raised KPg p))
+    ∷ row [] 3 same (λ p. more-q (raised KPg p))
     ∷ []
 
 -- ---- how many rules a line breaks
@@ -131,12 +143,12 @@ abbrev pub postFaults : ℕ → ℕ → ℕ → Post → ℕ
 postFaults n i t p =
     fault (kindFits n i (p .kind))
     + fault (noOtherBits (p .word))
-    + fault (staysDown (p .kind) (p .word))
-    + fault (heldIsLocked (p .kind) (p .word))
-    + fault (pedalBlocks (p .kind) (p .word))
-    + fault (announcementBlocks (p .kind) (p .word))
+    + fault (staysDown (form p) (p .word))
+    + fault (heldIsLocked (form p) (p .word))
+    + fault (pedalBlocks (form p) (p .word))
+    + fault (announcementBlocks (form p) (p .word))
     + fault (openIsReversed (p .word))
-    + fault (passageIsAnnounced (p .word))
+    + fault (passageIsAnnounced (p .kind) (p .word))
     + fault (staysZero p)
     + fault (countsWithin t p)
 
@@ -164,18 +176,18 @@ faults l s = fault (countFits (length l)) + fault (leb (s .taken) mostEvents) + 
 unfoldable pub refusedForOne : List Post → Head → Bool
 refusedForOne l s = eqb (faults l s) 1 && not (valid l s)
 
--- a row, on the line and head that its history left: there the line may be used, and as other hands leave it it is refused for one rule
-unfoldable pub alone : Row → List Post → Head → Bool
-alone r l s =
-    valid l s && refusedForOne (set (set l (r .at) (r .here (at l (r .at)))) (r .at + 1) (r .next (at l (r .at + 1)))) s
+-- a line as other hands leave it
+abbrev pub left : Row → List Post → List Post
+left r l = set (set l (r .at) (r .here (at l (r .at)))) (r .at + 1) (r .next (at l (r .at + 1)))
 
--- each row, with 1,000 events taken before it, so that no count is greater
-unfoldable pub brokenAlone : List Row → Bool
-brokenAlone [] = true
-brokenAlone (r ∷ rs) =
-    let a = afterAll (r .before) (started 1000) in
-    let b = alone r (a .line) (a .told .head) in
-    b && brokenAlone rs
+-- each row passes a test of its line as other hands leave it, on the line of the kinds ks and the head that its history left, which may be used;
+-- with 1,000 events taken before it, so that no count is greater
+unfoldable pub eachLeft : (List Post → Head → Bool) → List ℕ → List Row → Bool
+eachLeft test ks [] = true
+eachLeft test ks (r ∷ rs) =
+    let a = afterAll (r .before) (started ks 1000) in
+    let b = valid (a .line) (a .told .head) && test (left r (a .line)) (a .told .head) in
+    b && eachLeft test ks rs
 
 -- ---- the rules of the whole line
 -- thirty-three posts: the two ends and thirty-one between

@@ -1,4 +1,4 @@
--- The twelve events. 01, 'Events', and 02, item 2: each is a list of refusals, 0 where none is given, and a change.
+-- The twelve events. 01, 'Events', and 02, items 2 and 5: each is a list of refusals, 0 where none is given, and a change.
 -- p is the post that the event names; o is its neighbour: upstream for 6 and 7, downstream for 8, 9 and 10.
 -- Assumes nothing.
 use Prim.Native.Nat.{ℕ}
@@ -6,8 +6,8 @@ use mathlib.Core.Bool.{Bool, false, not, _&&_, _||_}
 use lib.Dec.{eqb}
 use Rattle.relay.specs.Answers.{leverThere, lDown, rlDown, leverReversed, anDown, kpgDown, rlUp, nothingUnderWay, sectionFree, signalUnderWay, anUp, noDevice, buttonJammed, buttonFree}
 use Rattle.relay.specs.Choice.{pick}
-use Rattle.relay.specs.Kinds.{origin, terminus, hasSignalPedal, hasPassagePedal, hasGarageRelease, blocksAtPedal}
-use Rattle.relay.specs.Posts.{wordTo, more-a, more-x, more-y, more-v, more-g, more-r, more-q, more-e, more-c}
+use Rattle.relay.specs.Kinds.{origin, terminus, isShort, ordinary, hasSignalPedal, hasPassagePedal, hasGarageRelease, blocksAtPedal}
+use Rattle.relay.specs.Posts.{form, wordTo, more-a, more-x, more-y, more-v, more-g, more-r, more-q, more-e, more-c}
 use Rattle.relay.specs.Relays.{An, KPg, L, RL, lever, signal, W314, W241, jam, up, down, raise, lower}
 use Rattle.relay.specs.declared.Post.{Post}
 use Rattle.relay.specs.declared.Pair.{Pair}
@@ -16,7 +16,7 @@ use Rattle.relay.specs.declared.Pair.{Pair}
 abbrev pub pair : Post → Post → Pair
 pair p o = record { here = p; other = o }
 
--- 1. Reverse the lever: 'Refused 7 if already reversed, then 8 if L is down (8 not at the terminus).' k is the kind, w the word
+-- 1. Reverse the lever: 'Refused 7 if already reversed, then 8 if L is down (8 not at the terminus).' k is the ordinary form of the kind, w the word
 unfoldable pub reverseRefusal : ℕ → ℕ → ℕ
 reverseRefusal k w = pick (up lever w) leverThere (pick (not (eqb k terminus) && down L w) lDown 0)
 
@@ -33,14 +33,16 @@ unfoldable pub normal : Post → Post
 normal p = wordTo (lower signal (lower lever (p .word))) p
 
 -- 3. Passage pedal: 'if An is up and KPg down, KPg rises and q grows by 1. Otherwise taken with no effect.'
+-- 02, item 5, at a short post: 'event 3 asks only that KPg be down'
 unfoldable pub passed : Post → Post
-passed p = pick (up An (p .word) && down KPg (p .word)) (more-q (wordTo (raise KPg (p .word)) p)) p
+passed p =
+    pick ((isShort (p .kind) || up An (p .word)) && down KPg (p .word)) (more-q (wordTo (raise KPg (p .word)) p)) p
 
 -- 4. Signal pedal: 'if the lever is reversed, the signal closes, and at kinds 0 and 2 L drops. With a normal lever, taken with no effect.'
 unfoldable pub struck : Post → Post
 struck p =
     pick (up lever (p .word))
-    (pick (blocksAtPedal (p .kind))
+    (pick (blocksAtPedal (form p))
     (wordTo (lower L (lower signal (p .word))) p)
     (wordTo (lower signal (p .word)) p))
     p
@@ -135,7 +137,7 @@ jamHinders n w = (eqb n 6 || eqb n 7 || eqb n 11) && up jam w
 unfoldable pub nothingToFree : ℕ → ℕ → Bool
 nothingToFree n w = eqb n 12 && down jam w
 
--- the event's own list: k is the kind, w the word of the post named, z its neighbour's word
+-- the event's own list: k is the ordinary form of the kind, w the word of the post named, z its neighbour's word
 unfoldable pub ownRefusal : ℕ → ℕ → ℕ → ℕ → ℕ
 ownRefusal n k w z =
     pick (eqb n 1) (reverseRefusal k w)
@@ -146,11 +148,11 @@ ownRefusal n k w z =
     (pick (eqb n 8 || eqb n 9) (underWayRefusal w)
     (pick (eqb n 10) (restoreRefusal w z) 0))))))
 
--- 6, then 22 and 23, 'both right after 6', then the event's own list
+-- 6, then 22 and 23, 'both right after 6', then the event's own list, at a post of kind k; 02, item 5: 'as those of the ordinary kind'
 unfoldable pub refusal : ℕ → ℕ → ℕ → ℕ → ℕ
 refusal n k w z =
-    pick (lacks n k) noDevice
-    (pick (jamHinders n w) buttonJammed (pick (nothingToFree n w) buttonFree (ownRefusal n k w z)))
+    pick (lacks n (ordinary k)) noDevice
+    (pick (jamHinders n w) buttonJammed (pick (nothingToFree n w) buttonFree (ownRefusal n (ordinary k) w z)))
 
 -- what the event, taken, makes of the two posts
 unfoldable pub changed : ℕ → Post → Post → Pair

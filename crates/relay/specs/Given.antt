@@ -1,4 +1,4 @@
--- The numbers returned to an event and on starting, by the number. 01, 'Numbers returned': 'No. | Given exactly when', the refusals that 'Events' names, and 02, item 2.
+-- The numbers returned to an event and on starting, by the number. 01, 'Numbers returned': 'No. | Given exactly when', the refusals that 'Events' names, and 02, items 2 and 5.
 -- A second reading of the paper: specs/Events.antt goes by the event and says which number it is given; this goes by the number and says
 -- which events are given it, at which kinds and with which relays. It is typed from the paper's table and lists, with the paper's own numbers,
 -- and cites none of the refusals there. That the two agree stands in proofs/Given.antt.
@@ -24,7 +24,11 @@ pub record Row : Type 0 where
 abbrev pub row : ℕ → Bool → Row
 row k b = record { number = k; reason = b }
 
--- 6, 22 and 23, and the numbers of the events' own lists: event n at a post of kind k with the relay word w; z is the word of the post downstream
+-- 02, item 5: 'Kinds 17, 18, 19 and 20 are the short forms of 1, 2, 3 and 4', 'Refusals: as those of the ordinary kind.' The kind by which kind k is refused
+unfoldable pub refusedAs : ℕ → ℕ
+refusedAs k = pick (eqb k 17) 1 (pick (eqb k 18) 2 (pick (eqb k 19) 3 (pick (eqb k 20) 4 k)))
+
+-- 6, 22 and 23, and the numbers of the events' own lists: event n at a post refused as kind k with the relay word w; z is the word of the post downstream
 unfoldable pub eventReasons : ℕ → ℕ → ℕ → ℕ → List Row
 eventReasons n k w z =
     -- 'this kind of post lacks the device'
@@ -66,7 +70,7 @@ reasons l s n i t =
     ∷ row 5 (leb 1000000 (s .taken))
     -- 'stamp behind the last': a difference round 2^32 that is below zero as a signed number has its highest bit up
     ∷ row 4 (leb (2 ^ 31) ((t + 2 ^ 32 - s .last) % 2 ^ 32))
-    ∷ eventReasons n (at l i .kind) (at l i .word) (at l (i + 1) .word)
+    ∷ eventReasons n (refusedAs (at l i .kind)) (at l i .word) (at l (i + 1) .word)
 
 -- number k is given by such a table: its reason holds and none before it does; 0 where no reason holds
 unfoldable pub givenBy : List Row → ℕ → Bool
@@ -78,11 +82,19 @@ abbrev pub given : ℕ → List Post → Head → ℕ → ℕ → ℕ → Bool
 given k l s n i t = givenBy (reasons l s n i t) k
 
 -- ---- on starting
--- 'all others have 2, 3 or 4', 'the last has kind 1': the kinds past the first
+-- 'the last has kind 1', or 17
+unfoldable pub lastRight : ℕ → Bool
+lastRight k = eqb k 1 || eqb k 17
+
+-- 'all others have 2, 3 or 4', or 18, 19 or 20
+unfoldable pub otherRight : ℕ → Bool
+otherRight k = eqb k 2 || eqb k 3 || eqb k 4 || eqb k 18 || eqb k 19 || eqb k 20
+
+-- the kinds past the first
 unfoldable pub othersRight : List ℕ → Bool
 othersRight [] = false
-othersRight (k ∷ []) = eqb k 1
-othersRight (k ∷ j ∷ ks) = (eqb k 2 || (eqb k 3 || eqb k 4)) && othersRight (j ∷ ks)
+othersRight (k ∷ []) = lastRight k
+othersRight (k ∷ j ∷ ks) = otherRight k && othersRight (j ∷ ks)
 
 -- 'Post 0 has kind 0'
 unfoldable pub kindsRight : List ℕ → Bool

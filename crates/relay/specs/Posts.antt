@@ -7,7 +7,7 @@ use mathlib.Core.List.{List}
 use lib.Dec.{eqb}
 use lib.ListN.{getD}
 use Rattle.relay.specs.Choice.{pick, grown}
-use Rattle.relay.specs.Kinds.{terminus}
+use Rattle.relay.specs.Kinds.{terminus, ordinary}
 use Rattle.relay.specs.Relays.{L, RL, raise}
 use Rattle.relay.specs.declared.Post.{Post}
 
@@ -15,6 +15,10 @@ use Rattle.relay.specs.declared.Post.{Post}
 abbrev pub post : ℕ → ℕ → ℕ → ℕ → ℕ → ℕ → ℕ → ℕ → ℕ → ℕ → ℕ → Post
 post word kind a x y v g r q e c =
     record { word = word; kind = kind; a = a; x = x; y = y; v = v; g = g; r = r; q = q; e = e; c = c }
+
+-- the ordinary form of its kind
+abbrev pub form : Post → ℕ
+form p = ordinary (p .kind)
 
 -- the record with another word
 abbrev pub wordTo : ℕ → Post → Post
@@ -50,7 +54,7 @@ more-c p = post (p .word) (p .kind) (p .a) (p .x) (p .y) (p .v) (p .g) (p .r) (p
 
 -- 'Fresh line: L and RL up at all posts but the terminus, everything else down, counts zero'
 unfoldable pub freshWord : ℕ → ℕ
-freshWord kind = pick (eqb kind terminus) 0 (raise RL (raise L 0))
+freshWord kind = pick (eqb (ordinary kind) terminus) 0 (raise RL (raise L 0))
 
 unfoldable pub freshPost : ℕ → Post
 freshPost kind = post (freshWord kind) kind 0 0 0 0 0 0 0 0 0

@@ -1,6 +1,7 @@
 -- Every event can be taken, with its effect, at each kind of post that has its device; and every number 2 to 17, 22 and 23 is given.
--- 01, 'Events' and 'Numbers returned', and 02, item 2, on one line that has a post of each kind and four sections: a table of histories from the fresh line, each
--- with one event more, its answer, and what it alters. That the rules give this table stands in proofs/Reached.antt.
+-- 01, 'Events' and 'Numbers returned', and 02, items 2 and 5, on a line that has a post of each ordinary kind and on one of their short forms: a table of histories
+-- from the fresh line, each with one event more, its answer, and what it alters; one for both, and what is another at a short post beside it. That the rules
+-- give these tables stands in proofs/Reached.antt.
 -- Assumes nothing.
 use Prim.Native.Nat.{ℕ, zero, suc, _+_, _-_}
 use mathlib.Core.Bool.{Bool, true, false, _&&_}
@@ -117,6 +118,10 @@ each (i ∷ is) f = f i ∷ each is f
 abbrev pub line : List ℕ
 line = 0 ∷ 2 ∷ 3 ∷ 4 ∷ 1 ∷ []
 
+-- and the short forms of these
+abbrev pub shortLine : List ℕ
+shortLine = 0 ∷ 18 ∷ 19 ∷ 20 ∷ 17 ∷ []
+
 abbrev pub everyPost : List ℕ
 everyPost = 0 ∷ 1 ∷ 2 ∷ 3 ∷ 4 ∷ []
 
@@ -137,8 +142,11 @@ recorded i = ev 5 (i - 1) ∷ ev 8 (i - 1) ∷ []
 abbrev pub passed : ℕ → List Event
 passed i = recorded i ++ (ev 3 i ∷ [])
 
+abbrev pub withOnward : ℕ → List Event → List Event
+withOnward i es = pick (eqb i 4) es (es ++ (ev 5 i ∷ []))
+
 abbrev pub announcedOn : ℕ → List Event
-announcedOn i = pick (eqb i 4) (passed i) (passed i ++ (ev 5 i ∷ []))
+announcedOn i = withOnward i (passed i)
 
 abbrev pub released : ℕ → List Event
 released i = announcedOn i ++ (ev 6 i ∷ [])
@@ -173,7 +181,6 @@ taken =
     ++ each everyPost (λ i. row (ev 1 i ∷ []) (ev 2 i) (alters i [] (lever ∷ signal ∷ []) []))
     -- 3. 'if An is up and KPg down, KPg rises and q grows by 1. Otherwise taken with no effect.'
     ++ each downstream (λ i. row (recorded i) (ev 3 i) (alters i (KPg ∷ []) [] (passages ∷ [])))
-    ++ each downstream (λ i. row [] (ev 3 i) nothing)
     ++ each downstream (λ i. row (passed i) (ev 3 i) nothing)
     -- 4. 'if the lever is reversed, the signal closes, and at kinds 0 and 2 L drops. With a normal lever, taken with no effect.'
     ++ each (0 ∷ 1 ∷ []) (λ i. row (ev 1 i ∷ []) (ev 4 i) (alters i [] (L ∷ signal ∷ []) []))
@@ -261,22 +268,48 @@ refusals =
     ++ each upstream (λ i. row (released (i + 1)) (ev 10 i) (refused 16))
     ++ each upstream (λ i. row (recorded (i + 1)) (ev 10 i) (refused 17))
 
--- the whole table
+-- the table of both lines
 abbrev pub table : List Row
 table = taken ++ refusals
 
+-- ---- an early strike
+-- 'An early strike is lost': before the announcement is sent, and while it is under way; so a release is refused 12
+unfoldable pub earlyLost : List Row
+earlyLost =
+    each downstream (λ i. row [] (ev 3 i) nothing)
+    ++ each downstream (λ i. row (ev 5 (i - 1) ∷ []) (ev 3 i) nothing)
+    ++ each downstream (λ i. row (ev 3 i ∷ recorded i) (ev 6 i) (refused 12))
+
+-- but at a short post, where 'event 3 asks only that KPg be down'
+unfoldable pub earlyCounts : List Row
+earlyCounts =
+    each downstream (λ i. row [] (ev 3 i) (alters i (KPg ∷ []) [] (passages ∷ [])))
+    ++ each downstream (λ i. row (ev 5 (i - 1) ∷ []) (ev 3 i) (alters i (KPg ∷ []) [] (passages ∷ [])))
+    -- a second strike is not counted, nor one after the announcement
+    ++ each downstream (λ i. row (ev 3 i ∷ []) (ev 3 i) nothing)
+    ++ each downstream (λ i. row (ev 3 i ∷ recorded i) (ev 3 i) nothing)
+    -- 'refused 11 if An is down', also where KPg is up
+    ++ each downstream (λ i. row (ev 3 i ∷ []) (ev 6 i) (refused 11))
+    ++ each (1 ∷ 2 ∷ []) (λ i. row (ev 3 i ∷ []) (ev 7 i) (refused 11))
+    -- the announcement arrives, or is lost to a jam, and the passage waits
+    ++ each upstream (λ i. row (ev 3 (i + 1) ∷ ev 5 i ∷ []) (ev 8 i) (announcementIn i))
+    ++ each upstream (λ i. row (ev 3 (i + 1) ∷ ev 11 (i + 1) ∷ ev 5 i ∷ []) (ev 8 i) (announcementGone i))
+    -- a release follows it
+    ++ each downstream (λ i. row (withOnward i (ev 3 i ∷ recorded i)) (ev 6 i) (sends i (releasesSent ∷ [])))
+    ++ each (1 ∷ 2 ∷ []) (λ i. row (ev 3 i ∷ recorded i) (ev 7 i) (sends i (releasesSent ∷ garageReleases ∷ [])))
+
 -- ---- what the rules make of it
--- the fresh line, with so many events taken
-abbrev pub started : ℕ → After
-started n = after (told 0 (head n 0)) (fresh line .line)
+-- the fresh line of these kinds, with so many events taken
+abbrev pub started : List ℕ → ℕ → After
+started ks n = after (told 0 (head n 0)) (fresh ks .line)
 
 abbrev pub seen : After → Event → Outcome
 seen a e = outcome (then e a .told .answer) (differences 0 (a .line) (then e a .line))
 
--- the outcome that the rules give each row, and the one that it states
-unfoldable pub outcomes : List Row → List Outcome
-outcomes [] = []
-outcomes (r ∷ rs) = seen (afterAll (r .before) (started (r .taken))) (r .event) ∷ outcomes rs
+-- the outcome that the rules give each row on a line of these kinds, and the one that it states
+unfoldable pub outcomes : List ℕ → List Row → List Outcome
+outcomes ks [] = []
+outcomes ks (r ∷ rs) = seen (afterAll (r .before) (started ks (r .taken))) (r .event) ∷ outcomes ks rs
 
 unfoldable pub stated : List Row → List Outcome
 stated [] = []

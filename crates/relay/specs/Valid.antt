@@ -1,4 +1,4 @@
--- A line that may be used. 01, 'A line that may be used' and 'One post's relays': one definition per rule, in the paper's words.
+-- A line that may be used. 01, 'A line that may be used' and 'One post's relays', and 02, items 2 and 5: one definition per rule, in the papers' words.
 -- The rules as facts, and that they are these tests, stand in proofs/Facts.antt.
 -- Assumes nothing.
 use Prim.Native.Nat.{ℕ, _+_, _^_}
@@ -7,12 +7,13 @@ use mathlib.Core.List.{List, [], _∷_}
 use lib.Dec.{eqb, ltb, leb}
 use lib.ListN.{length}
 use Rattle.relay.specs.Choice.{requires, same, one}
-use Rattle.relay.specs.Kinds.{origin, terminus, intermediate, blocksAtPedal, blocksAtAnnouncement, countFits, kindFits}
+use Rattle.relay.specs.Kinds.{origin, terminus, intermediate, isShort, ordinary, blocksAtPedal, blocksAtAnnouncement, countFits, kindFits}
+use Rattle.relay.specs.Posts.{form}
 use Rattle.relay.specs.Relays.{An, KPg, L, RL, lever, signal, W314, W241, jam, width, up, down}
 use Rattle.relay.specs.declared.Post.{Post}
 use Rattle.relay.specs.declared.Head.{Head}
 
--- ---- one post's word w, at a kind k
+-- ---- one post's word w, at a kind of the ordinary form k
 -- 'All other bits are zero.'
 unfoldable pub noOtherBits : ℕ → Bool
 noOtherBits w = ltb w (2 ^ width)
@@ -40,27 +41,28 @@ announcementBlocks k w =
 unfoldable pub openIsReversed : ℕ → Bool
 openIsReversed w = requires (up signal w) (up lever w)
 
--- 'KPg requires An.'
-unfoldable pub passageIsAnnounced : ℕ → Bool
-passageIsAnnounced w = requires (up KPg w) (up An w)
+-- 'KPg requires An.' 02, item 5: it 'now holds at ordinary posts only', here at a kind k of either form
+unfoldable pub passageIsAnnounced : ℕ → ℕ → Bool
+passageIsAnnounced k w = requires (not (isShort k)) (requires (up KPg w) (up An w))
 
--- every rule of one word
+-- every rule of one word, at a kind k
 unfoldable pub wordOk : ℕ → ℕ → Bool
 wordOk k w =
     noOtherBits w
-    && (staysDown k w
-    && (heldIsLocked k w
-    && (pedalBlocks k w && (announcementBlocks k w && (openIsReversed w && passageIsAnnounced w)))))
+    && (staysDown (ordinary k) w
+    && (heldIsLocked (ordinary k) w
+    && (pedalBlocks (ordinary k) w
+    && (announcementBlocks (ordinary k) w && (openIsReversed w && passageIsAnnounced k w)))))
 
 -- ---- one post's counts, with t events taken
 -- 'Counts that a post can't have are zero, c also at kinds 1 and 4': none of a section upstream at the origin,
 -- none of a section downstream at the terminus
 unfoldable pub staysZero : Post → Bool
 staysZero p =
-    requires (eqb (p .kind) origin) (eqb (p .r) 0 && (eqb (p .q) 0 && (eqb (p .e) 0 && eqb (p .c) 0)))
-    && (requires (eqb (p .kind) terminus)
+    requires (eqb (form p) origin) (eqb (p .r) 0 && (eqb (p .q) 0 && (eqb (p .e) 0 && eqb (p .c) 0)))
+    && (requires (eqb (form p) terminus)
     (eqb (p .a) 0 && (eqb (p .x) 0 && (eqb (p .y) 0 && (eqb (p .v) 0 && eqb (p .g) 0))))
-    && requires (eqb (p .kind) terminus || eqb (p .kind) intermediate) (eqb (p .c) 0))
+    && requires (eqb (form p) terminus || eqb (form p) intermediate) (eqb (p .c) 0))
 
 -- 'no count is greater than the events taken'
 unfoldable pub countsWithin : ℕ → Post → Bool

@@ -55,12 +55,12 @@ pub fn to_normal(p: Post) -> Post
     h
 }
 
-// 3. Passage pedal: an early strike is lost.
+// 3. Passage pedal: an early strike is lost, but at a short post.
 pub fn pass(p: Post) -> Post
     ensures { λ r. ⌜ r ≡ passed p ⌝ }
 {
     let w = p.word;
-    if w & crate::AN == 0 {
+    if !(crate::kinds::is_short(p.kind) | (w & crate::AN != 0)) {
         return p;
     }
     if w & crate::KPG != 0 {
@@ -77,17 +77,17 @@ pub fn strike(p: Post) -> Post
     ensures { λ r. ⌜ r ≡ struck p ⌝ }
 {
     let w = p.word;
-    let kind = p.kind;
     if w & crate::LEVER == 0 {
         return p;
     }
+    let form = crate::kinds::ordinary(p.kind);
     let mut h = p;
     h.word = w & (crate::ALL ^ crate::SIGNAL);
-    if kind == crate::ORIGIN {
+    if form == crate::ORIGIN {
         h.word = w & (crate::ALL ^ crate::SIGNAL) & (crate::ALL ^ crate::L);
         return h;
     }
-    if kind == crate::PEDAL_STATION {
+    if form == crate::PEDAL_STATION {
         h.word = w & (crate::ALL ^ crate::SIGNAL) & (crate::ALL ^ crate::L);
         return h;
     }
@@ -274,7 +274,7 @@ pub fn free_button(p: Post) -> Post
     h
 }
 
-// 6: a post of this kind lacks the device of the event.
+// 6: a post of this kind, in its ordinary form, lacks the device of the event.
 pub fn lacks_device(number: u32, kind: u32) -> bool
     ensures { λ r. ⌜ r ≡ lacks number kind ⌝ }
 {
@@ -331,11 +331,12 @@ pub fn own_refusal(number: u32, kind: u32, w: u32, z: u32) -> u32
     }
 }
 
-// 6, then 22 and 23, then the event's own list.
+// 6, then 22 and 23, then the event's own list, of the ordinary form of the kind.
 pub fn refusal_of(number: u32, kind: u32, w: u32, z: u32) -> u32
     ensures { λ r. ⌜ r ≡ refusal number kind w z ⌝ }
 {
-    if lacks_device(number, kind) {
+    let form = crate::kinds::ordinary(kind);
+    if lacks_device(number, form) {
         return crate::NO_DEVICE;
     }
     if jam_hinders(number, w) {
@@ -344,7 +345,7 @@ pub fn refusal_of(number: u32, kind: u32, w: u32, z: u32) -> u32
     if nothing_to_free(number, w) {
         return crate::BUTTON_FREE;
     }
-    own_refusal(number, kind, w, z)
+    own_refusal(number, form, w, z)
 }
 
 // The post named alone, altered.

@@ -5,6 +5,7 @@ ghost use mathlib.Core.Path.{_≡_};
 pub mod clock;
 pub mod events;
 pub mod gate;
+pub mod kinds;
 
 // The kinds of post.
 pub const ORIGIN: u32 = 0;
@@ -16,6 +17,9 @@ pub const PEDAL_STATION: u32 = 2;
 pub const ANNOUNCEMENT_STATION: u32 = 3;
 
 pub const INTERMEDIATE: u32 = 4;
+
+// So much greater is the short form of a kind from 1 to 4.
+pub const SHORT: u32 = 16;
 
 // The relays, as masks of the word.
 pub const AN: u32 = 1;

@@ -16,7 +16,7 @@ use Rattle.relay.proofs.Word.{relays}
 use Rattle.relay.specs.Answers.{lDown, rlDown, rlUp}
 use Rattle.relay.specs.Kinds.{blocksAtPedal}
 use Rattle.relay.specs.Line.{neighbour, eventOf}
-use Rattle.relay.specs.Posts.{at}
+use Rattle.relay.specs.Posts.{at, form}
 use Rattle.relay.specs.Relays.{L, RL, W314, W241, up}
 use Rattle.relay.specs.declared.Head.{Head}
 use Rattle.relay.specs.declared.Pair.{Pair}
@@ -27,7 +27,7 @@ use Rattle.why.specs.Why.{speaks, so}
 -- event m at post or section i, taken where post p is q, has made what refusal n says so
 pub data Cause (m i p : ℕ) (q : Post) : ℕ → Type 0 where
   -- 8: 'the signal closes, and at kinds 0 and 2 L drops'
-  struck : m ≡ 4 → i ≡ p → blocksAtPedal (q .kind) ≡ true → Cause m i p q lDown
+  struck : m ≡ 4 → i ≡ p → blocksAtPedal (form q) ≡ true → Cause m i p q lDown
   -- 8 and 9: 'RL and L drop'
   announced-8 : m ≡ 5 → i ≡ p → Cause m i p q lDown
   announced-9 : m ≡ 5 → i ≡ p → Cause m i p q rlDown
@@ -39,7 +39,7 @@ pub data Cause (m i p : ℕ) (q : Post) : ℕ → Type 0 where
 -- ---- what event m, which names i, may make of L and RL at post p: q before it, q′ after
 data Moves (m i p : ℕ) (q q′ : Post) : Type 0 where
   still : up L (q′ .word) ≡ up L (q .word) → up RL (q′ .word) ≡ up RL (q .word) → Moves m i p q q′
-  strikes : m ≡ 4 → i ≡ p → blocksAtPedal (q .kind) ≡ true → up RL (q′ .word) ≡ up RL (q .word) → Moves m i p q q′
+  strikes : m ≡ 4 → i ≡ p → blocksAtPedal (form q) ≡ true → up RL (q′ .word) ≡ up RL (q .word) → Moves m i p q q′
   sends : m ≡ 5 → i ≡ p → up RL (q′ .word) ≡ false → Moves m i p q q′
   frees : Cause m i p q rlUp → up L (q′ .word) ≡ true → up RL (q′ .word) ≡ true → Moves m i p q q′
 

@@ -11,7 +11,7 @@ use lib.ListN.{length}
 use Rattle.relay.proofs.Given.{beside, given-beside, ahead, given-ahead, answer-given}
 use Rattle.relay.proofs.Truth.{facts, or-facts}
 use Rattle.relay.specs.Answers.{noSuchPlace, noDevice, lDown, rlDown, rlUp}
-use Rattle.relay.specs.Given.{Row, reasons, eventReasons}
+use Rattle.relay.specs.Given.{Row, refusedAs, reasons, eventReasons}
 use Rattle.relay.specs.Kinds.{terminus}
 use Rattle.relay.specs.Line.{answerOf}
 use Rattle.relay.specs.Posts.{at}
@@ -21,7 +21,7 @@ use Rattle.why.specs.Why.{speaks, so}
 
 pub record Says (n : ℕ) (l : List Post) (p : ℕ) : Type 0 where
   pub there : p < length l
-  pub not-terminus : at l p .kind ≡ terminus → ⊥
+  pub not-terminus : refusedAs (at l p .kind) ≡ terminus → ⊥
   pub so-now : so n (at l p .word) ≡ true
 
 module _ (l : List Post) (s : Head) (m p t : ℕ) where

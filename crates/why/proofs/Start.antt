@@ -1,7 +1,7 @@
 -- At the start L and RL are up at every post but the terminus; and a post's kind stays. So what a refusal of 8 or 9 says was not so at the start, and what a refusal of 13 says was.
 -- Assumes nothing.
 use Prim.Native.Nat.{ℕ, zero, suc, _<_}
-use mathlib.Core.Path.{_≡_, refl, _∙_}
+use mathlib.Core.Path.{_≡_, refl, sym, ap, _∙_}
 use mathlib.Core.Logic.{_⊎_, ⊎-elim}
 use mathlib.Core.Bool.{true, false}
 use mathlib.Core.List.{List, [], _∷_}
@@ -11,12 +11,13 @@ use lib.ListN.{length, take}
 use Rattle.history.proofs.Kind.{step-kinds}
 use Rattle.history.specs.Run.{step}
 use Rattle.relay.proofs.Fresh.{length-fresh}
+use Rattle.relay.proofs.Given.{forms}
 use Rattle.relay.proofs.Word.{relays}
 use Rattle.relay.specs.Answers.{lDown, rlDown, rlUp}
 use Rattle.relay.specs.Examples.{ev-at}
-use Rattle.relay.specs.Kinds.{terminus}
+use Rattle.relay.specs.Kinds.{terminus, ordinary}
 use Rattle.relay.specs.Line.{After, freshLine}
-use Rattle.relay.specs.Posts.{at, freshWord, freshPost}
+use Rattle.relay.specs.Posts.{at, form, freshWord, freshPost}
 use Rattle.relay.specs.Relays.{L, RL, up}
 use Rattle.sheet.specs.Entry.{numberOf, postOf, stampOf}
 use Rattle.sheet.specs.Sheet.{Sheet}
@@ -34,11 +35,11 @@ run-kinds a (e ∷ es) i =
     ∙ step-kinds (ev-at (numberOf e) (postOf e) (stampOf e)) (record { history = []; line = a .line; head = a .told .head }) i
 
 -- 'Fresh line: L and RL up at all posts but the terminus'
-fresh-up : (ks : List ℕ) (p : ℕ) → p < length ks → (at (freshLine ks) p .kind ≡ terminus → ⊥)
+fresh-up : (ks : List ℕ) (p : ℕ) → p < length ks → (form (at (freshLine ks) p) ≡ terminus → ⊥)
     → (up L (at (freshLine ks) p .word) ≡ true) × (up RL (at (freshLine ks) p .word) ≡ true)
 unfolding freshLine freshPost freshWord
 fresh-up [] p h n = absurd (omega (arith, h))
-fresh-up (k ∷ ks) zero h n = rw (ne-eqb k terminus n) (simp relays, simp relays)
+fresh-up (k ∷ ks) zero h n = rw (ne-eqb (ordinary k) terminus n) (simp relays, simp relays)
 fresh-up (k ∷ ks) (suc p) h n = fresh-up ks p (omega arith) n
 
 -- ---- a post of which a refusal speaks after some events
@@ -49,7 +50,7 @@ module _ (t : Sheet) (n p i : ℕ) (s : Says n (stateAfter t i .line) p) where
       rw (run-none b)
       (fresh-up (t .kinds) p
       (omega (arith, s .there, run-long b (take i (t .events)), length-fresh (t .kinds)))
-      (λ e. s .not-terminus (run-kinds b (take i (t .events)) p ∙ e)))
+      (λ e. s .not-terminus (sym (forms _ .0) ∙ ap ordinary (run-kinds b (take i (t .events)) p) ∙ e)))
 
   pub at-start : (n ≡ rlUp → soAfter t n p 0 ≡ true) × ((n ≡ lDown) ⊎ (n ≡ rlDown) → soAfter t n p 0 ≡ false)
   unfolding so

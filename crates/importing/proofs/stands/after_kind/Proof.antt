@@ -15,25 +15,41 @@ kind-stands-requires c κs = search tests
 number-of-requires : tie.Need-number-of-requires
 number-of-requires c κs = search tests
 
+ordinary-requires : tie.Need-ordinary-requires
+ordinary-requires c κs = search tests
+
 add-go-on : tie.Need-add-go-on
-add-go-on c = let s = c .before .before .before .before .before .before .args .s in omega (arith, posts-few (s .posts) (s .marks) (sym (c .before .before .before .before .kind-stands .ensures) ∙ c .before .before .before .if1 .taken))
+add-go-on c = let s = c .before .before .before .before .before .before .before .args .s in omega (arith, posts-few (s .posts) (s .marks) (sym (c .before .before .before .before .before .kind-stands .ensures) ∙ c .before .before .before .before .if1 .taken))
 
 go-on-requires : tie.Need-go-on-requires
 go-on-requires c κs = search tests
 
 returns : tie.Need-returns
 unfolding afterKind
-returns c = c .go-on .ensures ∙ rw (sym (c .before .before .before .before .before .kind-stands .ensures) ∙ c .before .before .before .before .if1 .taken, eq-eqb _ _ (sym (c .before .before .before .number-of .ensures) ∙ c .before .before .if2 .taken))
+returns c =
+    c .go-on .ensures
+    ∙ rw (
+      sym (c .before .before .before .before .before .before .kind-stands .ensures) ∙ c .before .before .before .before .before .if1 .taken,
+      ← c .before .before .before .before .number-of .ensures,
+      eq-eqb _ _ (sym (c .before .before .before .ordinary .ensures) ∙ c .before .before .if2 .taken),
+    )
 
 add-go-on-2 : tie.Need-add-go-on-2
-add-go-on-2 c = let s = c .before .before .before .before .before .before .args .s in omega (arith, posts-few (s .posts) (s .marks) (sym (c .before .before .before .before .kind-stands .ensures) ∙ c .before .before .before .if1 .taken))
+add-go-on-2 c = let s = c .before .before .before .before .before .before .before .args .s in omega (arith, posts-few (s .posts) (s .marks) (sym (c .before .before .before .before .before .kind-stands .ensures) ∙ c .before .before .before .before .if1 .taken))
 
 go-on-requires-2 : tie.Need-go-on-requires-2
 go-on-requires-2 c κs = search tests
 
 returns-2 : tie.Need-returns-2
 unfolding afterKind
-returns-2 c = c .go-on2 .ensures ∙ rw (sym (c .before .before .before .before .before .kind-stands .ensures) ∙ c .before .before .before .before .if1 .taken, ← c .before .before .before .number-of .ensures, ne-eqb (c .before .before .before .number-of .result) 1 (c .before .before .if2 .left))
+returns-2 c =
+    c .go-on2 .ensures
+    ∙ rw (
+      sym (c .before .before .before .before .before .before .kind-stands .ensures) ∙ c .before .before .before .before .before .if1 .taken,
+      ← c .before .before .before .before .number-of .ensures,
+      ← c .before .before .before .ordinary .ensures,
+      ne-eqb (c .before .before .before .ordinary .result) 1 (c .before .before .if2 .left),
+    )
 
 stop-requires : tie.Need-stop-requires
 stop-requires c κs = search tests
@@ -48,6 +64,7 @@ after-kind-spec =
     (tie.spec
     kind-stands-requires
     number-of-requires
+    ordinary-requires
     add-go-on
     go-on-requires
     returns

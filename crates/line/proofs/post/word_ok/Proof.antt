@@ -4,6 +4,9 @@ use borrow.Author.Needs.{needs}
 use Rattle.line.proofs.post.word_ok.Statement.{statement}
 use Rattle.line.proofs.post.word_ok.Tie as tie
 
+ordinary-requires : tie.Need-ordinary-requires
+ordinary-requires c κs = search needs
+
 no-other-bits-requires : tie.Need-no-other-bits-requires
 no-other-bits-requires c κs = search needs
 
@@ -33,6 +36,7 @@ pub word-ok-spec : {M : Type 1} → statement M
 word-ok-spec =
     tie.close
     (tie.spec
+    ordinary-requires
     no-other-bits-requires
     stays-down-requires
     held-is-locked-requires

@@ -4,12 +4,15 @@ use Rattle.relay.proofs.Tests.{tests}
 use Rattle.relay.proofs.events.refusal_of.Statement.{statement}
 use Rattle.relay.proofs.events.refusal_of.Tie as tie
 
+ordinary-requires : tie.Need-ordinary-requires
+ordinary-requires c κs = search tests
+
 lacks-device-requires : tie.Need-lacks-device-requires
 lacks-device-requires c κs = search tests
 
 returns : tie.Need-returns
 unfolding refusal
-returns c = rw (← c .before .lacks-device .ensures, c .if1 .taken)
+returns c = rw (← c .before .before .ordinary .ensures, ← c .before .lacks-device .ensures, c .if1 .taken)
 
 jam-hinders-requires : tie.Need-jam-hinders-requires
 jam-hinders-requires c κs = search tests
@@ -18,6 +21,7 @@ returns-2 : tie.Need-returns-2
 unfolding refusal
 returns-2 c =
     rw (
+      ← c .before .before .before .before .ordinary .ensures,
       ← c .before .before .before .lacks-device .ensures,
       c .before .before .if1 .left,
       ← c .before .jam-hinders .ensures,
@@ -31,6 +35,7 @@ returns-3 : tie.Need-returns-3
 unfolding refusal
 returns-3 c =
     rw (
+      ← c .before .before .before .before .before .before .ordinary .ensures,
       ← c .before .before .before .before .before .lacks-device .ensures,
       c .before .before .before .before .if1 .left,
       ← c .before .before .before .jam-hinders .ensures,
@@ -46,6 +51,7 @@ returns-4 : tie.Need-returns-4
 unfolding refusal
 returns-4 c =
     rw (
+      ← c .before .before .before .before .before .before .before .ordinary .ensures,
       ← c .before .before .before .before .before .before .lacks-device .ensures,
       c .before .before .before .before .before .if1 .left,
       ← c .before .before .before .before .jam-hinders .ensures,
@@ -59,6 +65,7 @@ pub refusal-of-spec : {M : Type 1} → statement M
 refusal-of-spec =
     tie.close
     (tie.spec
+    ordinary-requires
     lacks-device-requires
     returns
     jam-hinders-requires
