@@ -34,7 +34,7 @@ pub struct Counts<T: 'static> {
     all: u64,
 }
 
-/// The bit of a kind; one that is not counted has none.
+/// The bit of a kind, or of a post; one past 31 has none.
 pub fn bit_of(kind: u32) -> u32 {
     1u32.checked_shl(kind).unwrap_or(0)
 }

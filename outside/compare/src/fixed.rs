@@ -134,11 +134,7 @@ pub fn fixed_cases() -> Vec<Fixed> {
             stuck_sheet().bytes(),
             stuck::LISTING,
         ),
-        listed(
-            "trains before their announcements",
-            early_sheet().bytes(),
-            short::LISTING,
-        ),
+        listed("early trains", early_sheet().bytes(), short::LISTING),
         listed("a header alone", header, "S 0 0 0 0 0 0 0 0 0 0\n"),
         refused("empty input", vec![], 18, 0),
         refused("511 bytes", vec![0; 511], 18, 0),

@@ -204,16 +204,9 @@ impl Tally {
         for answer in ANSWERS {
             let _ = writeln!(text, "  {answer:2} {:9}", self.answers[answer]);
         }
-        text.push_str("events taken in histories, by kind 0 to 4 and 17 to 20:\n");
-        for (event, counts) in self.taken.iter().enumerate().skip(1) {
-            let _ = write!(text, "  {event:2}");
-            for kind in KINDS {
-                let _ = write!(text, " {:8}", counts[kind as usize]);
-            }
-            text.push('\n');
-        }
-        text.push_str(&self.stood.text());
         for counts in [
+            self.taken_text(),
+            self.stood.text(),
             self.moments.text(),
             self.altered.text(),
             self.questions.text(),
@@ -223,6 +216,19 @@ impl Tally {
             self.blocks.text(),
         ] {
             text.push_str(&counts);
+        }
+        text
+    }
+
+    fn taken_text(&self) -> String {
+        let mut text = "events taken in histories, by kind 0 to 4 and 17 to 20:\n".to_string();
+        for (event, counts) in self.taken.iter().enumerate().skip(1) {
+            // Writing to a String cannot fail.
+            let _ = write!(text, "  {event:2}");
+            for kind in KINDS {
+                let _ = write!(text, " {:8}", counts[kind as usize]);
+            }
+            text.push('\n');
         }
         text
     }

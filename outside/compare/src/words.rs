@@ -44,11 +44,7 @@ pub fn work_cases() -> Vec<Fixed> {
             worked.clone(),
         ),
         good("work: a button sticks and is freed", stuck_sheet(), stuck),
-        good(
-            "work: trains before their announcements",
-            early_sheet(),
-            early,
-        ),
+        good("work: early trains", early_sheet(), early),
         refused("work: empty input", vec![], "refused 18 0\n"),
         refused("work: 3,000,000 bytes", long, "refused 18 0\n"),
         refused("work: wrong check", damaged, "refused 19 1\n"),
@@ -135,7 +131,7 @@ pub fn why_cases() -> Vec<Fixed> {
     let (stuck, early) = (stuck_sheet().worked(), early_sheet().worked());
     let name = "a button sticks and is freed";
     cases.extend(questions_of(name, &stuck, stuck::SINCE));
-    let name = "trains before their announcements";
+    let name = "early trains";
     cases.extend(questions_of(name, &early, short::SINCE));
     cases
 }
