@@ -14,6 +14,7 @@ use model::{Head, Post, Told, COUNT_LIMIT};
 
 /// Mends one rule, and no other.
 type Mend = fn(&mut [Post], &mut Head);
+type PostMend = fn(&mut Post);
 
 struct Blind<M>(M);
 
@@ -64,7 +65,7 @@ fn one_if(post: &Post, mask: u32) -> u32 {
 }
 
 /// Rules on one post by itself: each holds for a kind in both its forms.
-const POSTS: &[(&str, fn(&mut Post))] = &[
+const POSTS: &[(&str, PostMend)] = &[
     ("other bits are zero", |p| p.word &= 0x1FF),
     ("bit 9 is zero", |p| p.drop(1 << 9)),
     ("L, RL, W bits down at the terminus", |p| {
