@@ -111,9 +111,10 @@ static void print(const char *name, void (*one)(void), void (*what)(void), uint3
 
 int main(void)
 {
+    /* intermediate posts in both forms by turns, and a short terminus */
     for (size_t i = 1; i < DESK_POSTS - 1; i++)
-        kinds[i] = 4;
-    kinds[DESK_POSTS - 1] = 1;
+        kinds[i] = i % 2 == 0 ? 4 : 20;
+    kinds[DESK_POSTS - 1] = 17;
     /* announced, and then refused 8 since event 1 */
     for (size_t i = 0; i < 60; i++)
         memcpy(entries[i], (desk_entry){i == 0 ? 5 : 1, 0, 31, 0}, sizeof entries[i]);

@@ -1,10 +1,11 @@
 //! What other hands may do to a line: relays, counts, kinds, records, the head.
 
-use model::{relay, Post};
+use model::{kind, relay, Post};
 
 use crate::histories::Play;
 use crate::random::Random;
 use crate::request::{post_of, post_words, POST_WORDS};
+use crate::tables::{any_number, kind_inside, other_form};
 
 pub type Alteration = fn(&mut Random, &mut Play);
 
@@ -41,6 +42,25 @@ pub fn flip_jam(random: &mut Random, play: &mut Play) {
 
 pub fn jam_origin(_: &mut Random, play: &mut Play) {
     play.row[0].word |= relay::JAM;
+}
+
+/// A passage recorded with no announcement, at some post but the origin: allowed at a short
+/// one.
+pub fn early_relay(random: &mut Random, play: &mut Play) {
+    let at = random.between(1, play.row.len() - 1);
+    play.row[at].drop(relay::AN);
+    play.row[at].raise(relay::KPG);
+}
+
+/// The same, and q grown with it, so that no other rule is broken.
+pub fn early_passage(random: &mut Random, play: &mut Play) {
+    let at = random.between(1, play.row.len() - 1);
+    let post = &mut play.row[at];
+    if !post.is_up(relay::AN | relay::KPG) {
+        post.raise(relay::KPG);
+        post.q += 1;
+        play.head.taken += 1;
+    }
 }
 
 pub fn count_more(random: &mut Random, play: &mut Play) {
@@ -115,17 +135,23 @@ pub fn wrong_kind(random: &mut Random, play: &mut Play) {
     let kind = match random.below(4) {
         0 => random.edge_word(),
         1 => 5,
-        _ => random.small(0, 4),
+        _ => any_number(random),
     };
     some_post(random, play).kind = kind;
 }
 
-/// Another kind among 2, 3 and 4, which the relays and counts may allow.
-pub fn kind_inside(random: &mut Random, play: &mut Play) {
+/// Another kind for a post inside, which the relays and counts may allow.
+pub fn other_inside(random: &mut Random, play: &mut Play) {
     let posts = play.row.len();
     if posts > 2 {
-        play.row[random.between(1, posts - 2)].kind = random.small(2, 4);
+        play.row[random.between(1, posts - 2)].kind = kind_inside(random);
     }
+}
+
+/// Allowed at every post but one where a passage waits for its announcement.
+pub fn form_changed(random: &mut Random, play: &mut Play) {
+    let post = some_post(random, play);
+    post.kind = other_form(post.kind);
 }
 
 pub fn swap_records(random: &mut Random, play: &mut Play) {
@@ -164,7 +190,7 @@ pub fn lower_taken(random: &mut Random, play: &mut Play) {
 /// Any relays, most often without those that the post can't have.
 pub fn any_relays(random: &mut Random, play: &mut Play) {
     for post in &mut play.row {
-        let can_have = match post.kind {
+        let can_have = match kind::ordinary(post.kind) {
             0 => 0xFC,
             1 => 0x133,
             _ => 0x1FF,

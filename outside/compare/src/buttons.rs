@@ -11,15 +11,21 @@ const AT_A_JAMMED_POST: [u32; 12] = [12, 12, 12, 12, 11, 6, 6, 6, 7, 7, 8, 8];
 /// What is tried at a post that is free.
 const AT_A_FREE_POST: [u32; 4] = [11, 11, 11, 12];
 
-/// An event at this post, or for 8 at the section upstream of it: its number and place.
-pub fn at_a_jammed_post(random: &mut Random, post: usize) -> (u32, u32) {
-    let number = random.pick(&AT_A_JAMMED_POST);
-    let place = if number == 8 {
+/// An event of this number and its place: this post, for 5 the one upstream, and for 8, 9
+/// and 10 the section upstream.
+pub fn about_post(number: u32, post: usize) -> (u32, u32) {
+    let upstream = matches!(number, 5 | 8..=10);
+    let place = if upstream {
         post.saturating_sub(1)
     } else {
         post
     };
     (number, place as u32)
+}
+
+/// An event at a jammed post: its number and place.
+pub fn at_a_jammed_post(random: &mut Random, post: usize) -> (u32, u32) {
+    about_post(random.pick(&AT_A_JAMMED_POST), post)
 }
 
 /// An event about the button of some post that has one; where the post is free, only so
@@ -31,11 +37,4 @@ pub fn about_a_button(random: &mut Random, row: &[Post], percent: usize) -> Opti
     }
     let number = random.pick(&AT_A_FREE_POST);
     random.chance(percent).then_some((number, post as u32))
-}
-
-/// Some post of the row that is jammed.
-pub fn some_jammed_post(random: &mut Random, row: &[Post]) -> Option<usize> {
-    let is_jammed = |at: &usize| row[*at].is_up(relay::JAM);
-    let jammed: Vec<usize> = (0..row.len()).filter(is_jammed).collect();
-    (!jammed.is_empty()).then(|| random.pick(&jammed))
 }

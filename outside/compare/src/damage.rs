@@ -2,10 +2,11 @@
 
 use model::{BLOCK_BYTES, CHECK, EVENTS_PER_BLOCK};
 
-use crate::histories::{some_posts, stuck_event, table};
+use crate::histories::{early_event, some_posts, stuck_event, Next};
 use crate::random::Random;
 use crate::request::padded;
 use crate::sheets::{blocks, get, lively_sheet, put, renew, renewed, sheet_by, some, Sheet};
+use crate::tables::{any_number, table, Place};
 
 /// A kind of sheet: its name and its maker.
 pub type Kind = (&'static str, fn(&mut Random) -> Vec<u8>);
@@ -13,7 +14,8 @@ pub type Kind = (&'static str, fn(&mut Random) -> Vec<u8>);
 pub const KINDS: &[Kind] = &[
     ("good, unanswered", |random| some(random, 0).bytes()),
     ("good, any fields", |random| any_fields(random).bytes()),
-    ("good, stuck buttons", stuck_buttons),
+    ("good, stuck buttons", |random| good(random, stuck_event)),
+    ("good, early trains", |random| good(random, early_event)),
     ("worked", worked),
     ("partly answered", partly_answered),
     ("answered in any block", answered_in_any_block),
@@ -29,7 +31,15 @@ pub const KINDS: &[Kind] = &[
     ("word 0 of the table", |random| table_word(random, 0)),
     ("N wrong", |random| table_word(random, 1)),
     ("N of 33 and more", table_too_long),
-    ("a kind wrong", kind_wrong),
+    ("any number for the first kind", |random| {
+        number_for(random, Place::First)
+    }),
+    ("any number for a kind inside", |random| {
+        number_for(random, Place::Inside)
+    }),
+    ("any number for the last kind", |random| {
+        number_for(random, Place::Last)
+    }),
     ("filler of the table", table_filler),
     ("m of 0", |random| {
         one_block(random, 1, |random, b| set_m(random, b, &[0]))
@@ -78,10 +88,11 @@ fn any_fields(random: &mut Random) -> Sheet {
     sheet
 }
 
-fn stuck_buttons(random: &mut Random) -> Vec<u8> {
+/// A good sheet of such events.
+fn good(random: &mut Random, next: Next) -> Vec<u8> {
     let posts = some_posts(random);
     let count = random.between(20, 3 * EVENTS_PER_BLOCK);
-    sheet_by(random, posts, count, stuck_event).bytes()
+    sheet_by(random, posts, count, next).bytes()
 }
 
 fn worked(random: &mut Random) -> Vec<u8> {
@@ -221,12 +232,17 @@ fn table_too_long(random: &mut Random) -> Vec<u8> {
     renewed(bytes, 0)
 }
 
-fn kind_wrong(random: &mut Random) -> Vec<u8> {
-    let sheet = some(random, 0);
-    let at = random.below(sheet.kinds.len());
-    let wrong = [0, 1, 2, 5, 6, 256, 0x8000_0002, u32::MAX];
-    let mut bytes = sheet.bytes();
-    put(&mut bytes, 0, 3 + at, random.pick(&wrong));
+fn number_for(random: &mut Random, place: Place) -> Vec<u8> {
+    let (posts, count) = (some_posts(random).max(3), random.between(0, 70));
+    let bytes = lively_sheet(random, posts, count).bytes();
+    with_number(random, bytes, place)
+}
+
+/// Any number in this place of the table of a good sheet.
+pub fn with_number(random: &mut Random, mut bytes: Vec<u8>, place: Place) -> Vec<u8> {
+    let posts = get(&bytes, 0, 1) as usize;
+    let at = place.some_post(random, posts);
+    put(&mut bytes, 0, 3 + at, any_number(random));
     renewed(bytes, 0)
 }
 

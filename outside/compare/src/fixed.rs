@@ -1,11 +1,12 @@
 //! The working program's fixed cases, always run: sheets to list.
 
 use model::program::{asked, wrote, Wrote};
-use model::{paper, stuck, Entry, MOST_EVENTS, UNANSWERED};
+use model::{paper, short, stuck, Entry, MOST_EVENTS, UNANSWERED};
 
 use crate::histories::{near_stamp, stuck_pupils_event, Play};
 use crate::random::Random;
 use crate::sheets::{lively_sheet, put, renewed, Sheet};
+use crate::tables::other_form;
 
 /// An input for the program, the words that it has beside, and what it must write.
 pub struct Fixed {
@@ -31,6 +32,11 @@ pub fn papers_sheet() -> Sheet {
 /// The sheet in which 11 and 12 are taken and 22 and 23 given.
 pub fn stuck_sheet() -> Sheet {
     from_0(&stuck::KINDS, stuck::unanswered())
+}
+
+/// The sheet in which trains come before their announcements, at short posts and another.
+pub fn early_sheet() -> Sheet {
+    from_0(&short::KINDS, short::unanswered())
 }
 
 /// A sheet that starts at stamp 0.
@@ -67,12 +73,22 @@ pub fn computed(name: &'static str, words: &'static [&'static str], input: Vec<u
     }
 }
 
-/// 32 posts, kinds 2, 3 and 4 inside by turns, and a history in which every event
-/// is taken and each answer that a sheet can get is given.
-pub fn sheet_of_everything() -> Sheet {
+/// 32 posts, kinds 2, 3 and 4 inside by turns, each now in one form and now in the other,
+/// and a short terminus.
+fn kinds_of_everything() -> Vec<u32> {
     let mut kinds: Vec<u32> = (0..32).map(|at| 2 + at % 3).collect();
     kinds[0] = 0;
     kinds[31] = 1;
+    for kind in kinds[1..].iter_mut().step_by(2) {
+        *kind = other_form(*kind);
+    }
+    kinds
+}
+
+/// A history on those in which every event is taken and each answer that a sheet can get is
+/// given.
+pub fn sheet_of_everything() -> Sheet {
+    let kinds = kinds_of_everything();
     let stamp = u32::MAX - 100_000;
     let mut play = Play::from_start(&kinds, stamp);
     let mut random = Random::of_case(0, BUILT, 0);
@@ -118,6 +134,7 @@ pub fn fixed_cases() -> Vec<Fixed> {
             stuck_sheet().bytes(),
             stuck::LISTING,
         ),
+        listed("early trains", early_sheet().bytes(), short::LISTING),
         listed("a header alone", header, "S 0 0 0 0 0 0 0 0 0 0\n"),
         refused("empty input", vec![], 18, 0),
         refused("511 bytes", vec![0; 511], 18, 0),
@@ -127,6 +144,7 @@ pub fn fixed_cases() -> Vec<Fixed> {
         refused("3,000,000 bytes", vec![1; 3_000_000], 18, 0),
     ];
     cases.extend(fixed_damaged());
+    cases.extend(TABLES.map(wrong_table));
     cases.extend(fixed_answered());
     cases.extend(fixed_large());
     cases
@@ -148,6 +166,25 @@ fn fixed_damaged() -> Vec<Fixed> {
         refused("wrong check in block 4", changed(4, 0, 19), 19, 4),
         refused("already worked", worked, 20, 1),
     ]
+}
+
+/// Tables that are wrong by one kind.
+const TABLES: [(&str, [u32; 3]); 7] = [
+    ("a short origin", [16, 4, 1]),
+    ("a short terminus first", [17, 4, 1]),
+    ("16 inside", [0, 16, 1]),
+    ("a short terminus inside", [0, 17, 17]),
+    ("21 inside", [0, 21, 17]),
+    ("a short station last", [0, 4, 18]),
+    ("21 last", [0, 20, 21]),
+];
+
+fn wrong_table((name, kinds): (&'static str, [u32; 3])) -> Fixed {
+    let mut sheet = from_0(&[0, 4, 1], vec![]).bytes();
+    for (at, kind) in kinds.into_iter().enumerate() {
+        put(&mut sheet, 0, 3 + at, kind);
+    }
+    refused(name, renewed(sheet, 0), 20, 0)
 }
 
 /// Sheets with events answered already: how many events there are, which of them are

@@ -3,7 +3,9 @@
 use model::program::Wrote;
 use model::{paper, MOST_EVENTS};
 
-use crate::fixed::{computed, papers_sheet, sheet_of_everything, short_sheet, Fixed};
+use crate::fixed::{
+    computed, early_sheet, from_0, papers_sheet, sheet_of_everything, short_sheet, Fixed,
+};
 use crate::ran::{compared, run_on, with_words, Given};
 use crate::sheets::{put, renewed, Sheet};
 use crate::texts::Text;
@@ -23,10 +25,13 @@ pub fn register_cases() -> Vec<Fixed> {
     let mut cases = export_cases();
     cases.extend(import_cases());
     cases.extend(WRONG.iter().map(wrong_case));
-    let everything = sheet_of_everything().worked();
-    let text = Text::of(&everything).bytes();
+    cases.extend(short_terminus());
+    let (everything, early) = (sheet_of_everything().worked(), early_sheet().worked());
+    let [text, early_text] = [&everything, &early].map(|sheet| Text::of(sheet).bytes());
     let full = short_sheet(&vec![(1, 0); MOST_EVENTS]).bytes();
     cases.extend([
+        computed("export: short posts", &["export"], early.bytes()),
+        computed("import: short posts", &["import"], early_text),
         computed(
             "export: every event and answer",
             &["export"],
@@ -37,6 +42,25 @@ pub fn register_cases() -> Vec<Fixed> {
         computed("import: 3,780 events", &["import"], long_text(MOST_EVENTS)),
     ]);
     cases
+}
+
+/// The paper's register with a short terminus, both ways.
+fn short_terminus() -> [Fixed; 2] {
+    let text = paper::REGISTER.replace(",1,1,,", ",17,1,,").into_bytes();
+    let sheet = from_0(&[0, 17], paper::answered()).bytes();
+    let case = |name, words, input: &[u8], printed: &[u8]| Fixed {
+        name,
+        words,
+        input: input.to_vec(),
+        wrote: Wrote {
+            printed: printed.to_vec(),
+            said: String::new(),
+        },
+    };
+    [
+        case("export: a short terminus", &["export"], &sheet, &text),
+        case("import: a short terminus", &["import"], &text, &sheet),
+    ]
 }
 
 fn export_cases() -> Vec<Fixed> {
@@ -122,6 +146,30 @@ const WRONG: &[(&str, &str, &str, &str)] = &[
         ",1,1,,\r\n1,",
         ",4,1,,\r\n1,",
         "refused 28 5\n",
+    ),
+    (
+        "import: a short station for the terminus",
+        ",1,1,,\r\n1,",
+        ",18,1,,\r\n1,",
+        "refused 28 5\n",
+    ),
+    (
+        "import: a short terminus before the terminus",
+        ",1,1,,\r\n1,",
+        ",17,1,,\r\n,1,2,,\r\n1,",
+        "refused 28 5\n",
+    ),
+    (
+        "import: a short origin",
+        ",0,0,,",
+        ",16,0,,",
+        "refused 28 3\n",
+    ),
+    (
+        "import: 21 for a terminus",
+        ",1,1,,\r\n1,",
+        ",21,1,,\r\n1,",
+        "refused 28 4\n",
     ),
     (
         "import: LF for CR LF",

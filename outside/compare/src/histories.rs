@@ -1,11 +1,13 @@
-//! Histories on a right table: lively, with stuck buttons, wild, and round the clock's
-//! turn.
+//! Histories on a right table: lively, with stuck buttons, with early trains, wild, and
+//! round the clock's turn.
 
-use model::{relay, Head, Post};
+use model::{kind, relay, Head, Post};
 
 use crate::buttons::about_a_button;
 use crate::random::Random;
 use crate::request::{Request, Step};
+use crate::strikes::about_a_passage;
+use crate::tables::table;
 use crate::variety::Variety;
 
 pub const LIVELY: &[Variety] = &[
@@ -13,13 +15,25 @@ pub const LIVELY: &[Variety] = &[
     ("few posts", |random| lively(random, 3, 5, 300)),
     ("some posts", |random| lively(random, 4, 9, 400)),
     ("many posts", |random| lively(random, 10, 32, 300)),
-    ("kind 2 inside", |random| lively_inside(random, 2)),
-    ("kind 3 inside", |random| lively_inside(random, 3)),
-    ("kind 4 inside", |random| lively_inside(random, 4)),
+    ("kind 2 inside", |random| inside(random, 2, lively_event)),
+    ("kind 3 inside", |random| inside(random, 3, lively_event)),
+    ("kind 4 inside", |random| inside(random, 4, lively_event)),
     ("long", long),
     ("stuck buttons, two posts", |random| stuck(random, 2, 2)),
     ("stuck buttons, few posts", |random| stuck(random, 3, 5)),
     ("stuck buttons, more posts", |random| stuck(random, 6, 16)),
+    ("early trains, two posts", |random| early(random, 2, 2)),
+    ("early trains, few posts", |random| early(random, 3, 5)),
+    ("early trains, more posts", |random| early(random, 4, 12)),
+    ("early trains, kind 18 inside", |random| {
+        inside(random, 18, early_event)
+    }),
+    ("early trains, kind 19 inside", |random| {
+        inside(random, 19, early_event)
+    }),
+    ("early trains, kind 20 inside", |random| {
+        inside(random, 20, early_event)
+    }),
 ];
 
 pub const WILD: &[Variety] = &[
@@ -55,6 +69,10 @@ const LAST_OF_01: u32 = 10;
 const SELDOM: [usize; 2] = [20, 6];
 const OFTEN: [usize; 2] = [40, 15];
 
+/// How often in a hundred events a passage before its announcement is thought of, where
+/// trains are early.
+const EARLY: usize = 40;
+
 /// A line as the model plays it.
 #[derive(Clone)]
 pub struct Play {
@@ -74,14 +92,13 @@ impl Play {
         self.head = told.head;
         told.answer
     }
-}
 
-/// A right table of this many posts.
-pub fn table(random: &mut Random, posts: usize) -> Vec<u32> {
-    let mut kinds: Vec<u32> = (0..posts).map(|_| random.small(2, 4)).collect();
-    kinds[0] = 0;
-    kinds[posts - 1] = 1;
-    kinds
+    /// The same on a line that is known to be valid.
+    fn take_on_valid(&mut self, [number, place, stamp]: Step) -> u32 {
+        let told = model::event_on_valid(&mut self.row, self.head, number, place, stamp);
+        self.head = told.head;
+        told.answer
+    }
 }
 
 /// Mostly few posts: what a reply weighs grows with them.
@@ -105,7 +122,8 @@ fn any_event(random: &mut Random, posts: usize, last: u32) -> (u32, u32) {
     (number, place)
 }
 
-/// Whether a pedal strike would alter something; all others are refused if not.
+/// Whether a pedal strike would alter something; all others are refused if not. An early
+/// strike of the passage pedal, which would at a short post, is not wanted more often there.
 fn alters(post: &Post, number: u32) -> bool {
     match number {
         3 => post.is_up(relay::AN) && !post.is_up(relay::KPG),
@@ -134,7 +152,18 @@ fn about_or(
 ) -> Step {
     let thought_of = random.chance(thought_of);
     let about = thought_of.then(|| about_a_button(random, &play.row, free));
-    let Some((number, place)) = about.flatten() else {
+    this_or(random, play, stamp, about.flatten(), other)
+}
+
+/// The event of this number and place, now played; another if there is none.
+fn this_or(
+    random: &mut Random,
+    play: &mut Play,
+    stamp: u32,
+    this: Option<(u32, u32)>,
+    other: Next,
+) -> Step {
+    let Some((number, place)) = this else {
         return other(random, play, stamp);
     };
     let step = [number, place, stamp];
@@ -161,14 +190,15 @@ pub fn ordinary_event(random: &mut Random, play: &mut Play, stamp: u32) -> Step 
 /// number, seldom past this last one.
 fn traffic_up_to(random: &mut Random, play: &mut Play, stamp: u32, last: u32) -> Step {
     let posts = play.row.len();
-    let tries = if random.chance(15) { 0 } else { 14 };
-    for _ in 0..tries {
+    // A refused event leaves the line as it was, so that it is tested once for all tries.
+    let none = random.chance(15) || !model::valid(&play.row, play.head);
+    for _ in 0..if none { 0 } else { 14 } {
         let (number, place) = (random.pick(&TRIED), random.below(posts));
         if !alters(&play.row[place], number) && !random.chance(10) {
             continue;
         }
         let step = [number, place as u32, stamp];
-        if play.take(step) == 0 {
+        if play.take_on_valid(step) == 0 {
             return step;
         }
     }
@@ -186,7 +216,7 @@ const REFUSED: [(u32, u32); 3] = [(1, 8), (5, 9), (6, 13)];
 fn trains_event(post: &Post) -> Option<u32> {
     let [l, rl, lever, signal] =
         [relay::L, relay::RL, relay::LEVER, relay::SIGNAL].map(|mask| post.is_up(mask));
-    if !rl || !(post.kind == 0 || post.kind == 2) {
+    if !rl || !matches!(kind::ordinary(post.kind), 0 | 2) {
         return None;
     }
     Some(match (lever, signal) {
@@ -227,6 +257,13 @@ pub fn stuck_pupils_event(random: &mut Random, play: &mut Play, stamp: u32) -> S
     about_or(random, play, stamp, OFTEN, pupils_event)
 }
 
+/// The same where trains are early.
+pub fn early_event(random: &mut Random, play: &mut Play, stamp: u32) -> Step {
+    let thought_of = random.chance(EARLY);
+    let about = thought_of.then(|| about_a_passage(random, &play.row));
+    this_or(random, play, stamp, about, pupils_event)
+}
+
 /// A stamp not far from the last, now and then behind it.
 pub fn near_stamp(random: &mut Random, last: u32) -> u32 {
     match random.below(30) {
@@ -237,22 +274,28 @@ pub fn near_stamp(random: &mut Random, last: u32) -> u32 {
 }
 
 fn lively(random: &mut Random, least: usize, most: usize, events: usize) -> Request {
-    let posts = random.between(least, most);
-    let kinds = table(random, posts);
-    history(random, kinds, events, lively_event)
+    of_posts(random, [least, most], events, lively_event)
 }
 
 fn stuck(random: &mut Random, least: usize, most: usize) -> Request {
-    let posts = random.between(least, most);
-    let kinds = table(random, posts);
-    history(random, kinds, 300, stuck_event)
+    of_posts(random, [least, most], 300, stuck_event)
 }
 
-fn lively_inside(random: &mut Random, kind: u32) -> Request {
+fn early(random: &mut Random, least: usize, most: usize) -> Request {
+    of_posts(random, [least, most], 300, early_event)
+}
+
+fn of_posts(random: &mut Random, posts: [usize; 2], events: usize, next: Next) -> Request {
+    let posts = random.between(posts[0], posts[1]);
+    let kinds = table(random, posts);
+    history(random, kinds, events, next)
+}
+
+fn inside(random: &mut Random, kind: u32, next: Next) -> Request {
     let posts = random.between(3, 6);
     let mut kinds = table(random, posts);
     kinds[1..posts - 1].fill(kind);
-    history(random, kinds, 300, lively_event)
+    history(random, kinds, 300, next)
 }
 
 fn history(random: &mut Random, kinds: Vec<u32>, most: usize, next: Next) -> Request {

@@ -2,21 +2,76 @@
 //! button (02, item 2).
 
 use model::relay::{AN, JAM, KPG, LEVER, RL, W241, W314};
-use model::{valid, Head, Post};
+use model::{kind, valid, Head, Post};
 
-use crate::counts::Wanted;
+use crate::counts::{bit_of, Wanted};
 use crate::request::{Step, POST_WORDS};
 
 /// An event of a history, its answer, and what stood there before it.
 pub struct Moment {
     number: u32,
     answer: u32,
-    /// The kind and the relays of the post, for a section of its upstream post.
+    /// The post, for a section its upstream post, and its relays after the event.
+    here: Stands,
+    after: u32,
+    /// The posts next to it; none past the ends.
+    upstream: Stands,
+    downstream: Stands,
+    /// The passage recorded at the post came before its announcement.
+    struck_early: bool,
+}
+
+/// A post's relays and its kind; none has a kind that is no kind.
+struct Stands {
+    word: u32,
     kind: u32,
-    here: u32,
-    /// The relays of the posts next to it; none past the ends.
-    upstream: u32,
-    downstream: u32,
+}
+
+impl Stands {
+    /// By the records of a reply.
+    fn at(records: &[u32], at: Option<usize>) -> Self {
+        let word = |field| {
+            let at = at.and_then(|at| at.checked_mul(POST_WORDS));
+            at.and_then(|at| records.get(at + field)).copied()
+        };
+        Stands {
+            word: word(0).unwrap_or(0),
+            kind: word(1).unwrap_or(u32::MAX),
+        }
+    }
+
+    fn waits_at(&self, kind: u32) -> bool {
+        self.kind == kind && self.word & (KPG | AN) == KPG
+    }
+}
+
+/// A history as it goes on: at which posts the passage recorded, if one is, came before its
+/// announcement, each a bit.
+#[derive(Default)]
+pub struct Goes {
+    struck_early: u32,
+}
+
+impl Goes {
+    /// The next event: what a reply says before it and after it.
+    pub fn moment(&mut self, before: &[u32], after: &[u32], step: Step, answer: u32) -> Moment {
+        let at = step[1] as usize;
+        let bit = bit_of(step[1]);
+        let moment = Moment {
+            number: step[0],
+            answer,
+            here: Stands::at(before, Some(at)),
+            after: Stands::at(after, Some(at)).word,
+            upstream: Stands::at(before, at.checked_sub(1)),
+            downstream: Stands::at(before, at.checked_add(1)),
+            struck_early: self.struck_early & bit != 0,
+        };
+        if moment.number == 3 && moment.records() {
+            self.struck_early &= !bit;
+            self.struck_early |= bit * u32::from(!moment.up(AN));
+        }
+        moment
+    }
 }
 
 pub const MOMENTS: &[Wanted<Moment>] = &[
@@ -58,10 +113,10 @@ pub const MOMENTS: &[Wanted<Moment>] = &[
     ("6 for 12", |m| m.is(12, 6)),
     ("jam taken, An up", |m| m.is(11, 0) && m.up(AN)),
     ("jam taken, an announcement under way to it", |m| {
-        m.is(11, 0) && m.upstream & W314 != 0
+        m.is(11, 0) && m.up_upstream(W314)
     }),
     ("jam taken, its release under way", |m| {
-        m.is(11, 0) && m.upstream & W241 != 0
+        m.is(11, 0) && m.up_upstream(W241)
     }),
     ("freed, An up", |m| m.is(12, 0) && m.up(AN)),
     ("2 for 11 or 12", |m| m.is(11, 2) || m.is(12, 2)),
@@ -69,33 +124,33 @@ pub const MOMENTS: &[Wanted<Moment>] = &[
 ];
 
 impl Moment {
-    /// By the records before the event, as a reply has them.
-    pub fn new(records: &[u32], step: Step, answer: u32) -> Self {
-        let at = step[1] as usize;
-        let word = |at: Option<usize>, field| {
-            let at = at.and_then(|at| at.checked_mul(POST_WORDS));
-            at.and_then(|at| records.get(at + field)).copied()
-        };
-        Moment {
-            number: step[0],
-            answer,
-            kind: word(Some(at), 1).unwrap_or(u32::MAX),
-            here: word(Some(at), 0).unwrap_or(0),
-            upstream: word(at.checked_sub(1), 0).unwrap_or(0),
-            downstream: word(at.checked_add(1), 0).unwrap_or(0),
-        }
-    }
-
-    fn is(&self, number: u32, answer: u32) -> bool {
+    pub fn is(&self, number: u32, answer: u32) -> bool {
         self.number == number && self.answer == answer
     }
 
-    fn up(&self, mask: u32) -> bool {
-        self.here & mask != 0
+    /// The kinds of the post and of the one downstream, each a bit.
+    pub fn kinds(&self) -> u32 {
+        bit_of(self.here.kind) | bit_of(self.downstream.kind)
     }
 
-    fn jammed_downstream(&self) -> bool {
-        self.downstream & JAM != 0
+    pub fn is_at(&self, number: u32, answer: u32, kind: u32) -> bool {
+        self.here.kind == kind && self.is(number, answer)
+    }
+
+    pub fn up(&self, mask: u32) -> bool {
+        self.here.word & mask != 0
+    }
+
+    pub fn up_after(&self, mask: u32) -> bool {
+        self.after & mask != 0
+    }
+
+    pub fn up_upstream(&self, mask: u32) -> bool {
+        self.upstream.word & mask != 0
+    }
+
+    pub fn jammed_downstream(&self) -> bool {
+        self.downstream.word & JAM != 0
     }
 
     fn passage_recorded(&self) -> bool {
@@ -104,11 +159,40 @@ impl Moment {
 
     /// A release would be refused 10 at the terminus, 13 elsewhere.
     fn onward_refuses(&self) -> bool {
-        if self.kind == 1 {
+        if kind::ordinary(self.here.kind) == 1 {
             self.up(LEVER)
         } else {
             self.up(RL)
         }
+    }
+
+    /// The passage pedal of a post of this kind is struck.
+    pub fn strikes(&self, kind: u32) -> bool {
+        self.is_at(3, 0, kind)
+    }
+
+    /// The same with no announcement and no passage recorded.
+    pub fn early_strike(&self, kind: u32) -> bool {
+        self.strikes(kind) && !self.up(AN | KPG)
+    }
+
+    /// KPg rises.
+    pub fn records(&self) -> bool {
+        !self.up(KPG) && self.up_after(KPG)
+    }
+
+    pub fn struck_early(&self) -> bool {
+        self.struck_early
+    }
+
+    /// The post downstream has this kind and a passage recorded, but no announcement.
+    pub fn waits_downstream(&self, kind: u32) -> bool {
+        self.downstream.waits_at(kind)
+    }
+
+    /// An announcement arrives at such a post.
+    pub fn arrives_where_one_waits(&self, kind: u32) -> bool {
+        self.is(8, 0) && self.up(W314) && self.waits_downstream(kind)
     }
 }
 
@@ -122,16 +206,14 @@ pub struct Altered {
 }
 
 pub const ALTERED: &[Wanted<Altered>] = &[
-    ("valid, bit 8 up at kind 1", |a| a.valid_and_jammed(1)),
-    ("valid, bit 8 up at kind 2", |a| a.valid_and_jammed(2)),
-    ("valid, bit 8 up at kind 3", |a| a.valid_and_jammed(3)),
-    ("valid, bit 8 up at kind 4", |a| a.valid_and_jammed(4)),
     ("bit 8 up at the origin, all else right", |a| {
-        a.wrong_only(|at| if at == 0 { JAM } else { 0 })
+        a.wrong_only(|post, at| post.word &= if at == 0 { !JAM } else { !0 })
     }),
-    ("bit 9 up, all else right", |a| a.wrong_only(|_| 1 << 9)),
+    ("bit 9 up, all else right", |a| {
+        a.wrong_only(|post, _| post.drop(1 << 9))
+    }),
     ("a bit above 9 up, all else right", |a| {
-        a.wrong_only(|_| !0 << 10)
+        a.wrong_only(|post, _| post.drop(!0 << 10))
     }),
     ("bit 8 up inside, not valid", |a| {
         !a.valid && a.row.iter().any(|post| post.kind != 0 && post.is_up(JAM))
@@ -149,22 +231,20 @@ pub const ALTERED: &[Wanted<Altered>] = &[
 ];
 
 impl Altered {
-    fn valid_and_jammed(&self, kind: u32) -> bool {
-        let jammed = |post: &Post| post.kind == kind && post.is_up(JAM);
-        self.valid && self.row.iter().any(jammed)
-    }
-
-    /// Not valid, and valid without these bits of each post.
-    fn wrong_only(&self, bits: fn(usize) -> u32) -> bool {
+    /// Not valid, and valid when each post is mended so, by its place.
+    pub fn wrong_only(&self, mend: impl Fn(&mut Post, usize)) -> bool {
+        if self.valid {
+            return false;
+        }
         let mut mended = self.row.clone();
         for (at, post) in mended.iter_mut().enumerate() {
-            post.word &= !bits(at);
+            mend(post, at);
         }
-        !self.valid && mended != self.row && valid(&mended, self.head)
+        mended != self.row && valid(&mended, self.head)
     }
 
     /// The place of the event named, if it has this number and this answer.
-    fn gets(&self, number: u32, answer: u32) -> Option<usize> {
+    pub fn gets(&self, number: u32, answer: u32) -> Option<usize> {
         let ([named, place, _], given) = self.told?;
         ((named, given) == (number, answer)).then_some(place as usize)
     }

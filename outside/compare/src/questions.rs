@@ -3,11 +3,12 @@
 
 use model::{BLOCK_BYTES, MOST_BLOCKS};
 
-use crate::damage::{break_check, break_contents, KINDS};
-use crate::histories::{pupils_event, some_posts, stuck_pupils_event};
+use crate::damage::{break_check, break_contents, with_number, KINDS};
+use crate::histories::{early_event, pupils_event, some_posts, stuck_pupils_event, Next};
 use crate::random::Random;
 use crate::request::Request;
 use crate::sheets::{blocks, renew, sheet_by, some, Sheet};
+use crate::tables::Place;
 use crate::variety::Variety;
 
 /// The answers that may be asked about.
@@ -31,6 +32,8 @@ pub const QUESTIONS: &[Variety] = &[
     ("8, stuck buttons", |random| told(random, 8, stuck)),
     ("9, stuck buttons", |random| told(random, 9, stuck)),
     ("13, stuck buttons", |random| told(random, 13, stuck)),
+    ("8, early trains", |random| told(random, 8, early)),
+    ("13, early trains", |random| told(random, 13, early)),
     ("22 or 23, stuck buttons", |random| {
         let (sheet, at) = chosen(random, &OF_JAMS, stuck);
         ask(sheet.bytes(), at as u32 + 1)
@@ -81,6 +84,15 @@ pub const QUESTIONS: &[Variety] = &[
             renew(bytes, at);
         })
     }),
+    ("any number for the first kind", |random| {
+        kind_altered(random, Place::First)
+    }),
+    ("any number for a kind inside", |random| {
+        kind_altered(random, Place::Inside)
+    }),
+    ("any number for the last kind", |random| {
+        kind_altered(random, Place::Last)
+    }),
     ("any kind of sheet", |random| {
         let sheet = random.pick(KINDS).1(random);
         let position = random.small(0, 70);
@@ -111,6 +123,12 @@ fn few(random: &mut Random) -> Sheet {
     worked(random, posts, 100)
 }
 
+/// So few that one is inside.
+fn several(random: &mut Random) -> Sheet {
+    let posts = random.between(3, 5);
+    worked(random, posts, 60)
+}
+
 /// So that each relay has dropped and risen again.
 fn long(random: &mut Random) -> Sheet {
     let posts = random.between(3, 4);
@@ -118,8 +136,16 @@ fn long(random: &mut Random) -> Sheet {
 }
 
 fn stuck(random: &mut Random) -> Sheet {
+    worked_by(random, stuck_pupils_event)
+}
+
+fn early(random: &mut Random) -> Sheet {
+    worked_by(random, early_event)
+}
+
+fn worked_by(random: &mut Random, next: Next) -> Sheet {
     let (posts, count) = (random.between(2, 5), random.between(20, 120));
-    sheet_by(random, posts, count, stuck_pupils_event).worked()
+    sheet_by(random, posts, count, next).worked()
 }
 
 fn many(random: &mut Random) -> Sheet {
@@ -236,6 +262,14 @@ fn made_up(random: &mut Random) -> Request {
     let (mut sheet, at) = chosen(random, &[0, 2, 3, 6, 7, 14, 22, 23], few);
     sheet.events[at][2] = random.pick(&TOLD);
     ask(sheet.bytes(), at as u32 + 1)
+}
+
+/// Any number in this place of the table: where it may stand there, the answers may be right
+/// or not.
+fn kind_altered(random: &mut Random, place: Place) -> Request {
+    let (sheet, at) = chosen(random, &TOLD, several);
+    let bytes = with_number(random, sheet.bytes(), place);
+    ask(bytes, at as u32 + 1)
 }
 
 /// A worked sheet, with an answer altered or not, and then damaged.

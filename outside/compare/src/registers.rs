@@ -145,7 +145,7 @@ impl Import {
         let ends = |row: &&str| {
             row.split(',')
                 .nth(1)
-                .is_some_and(|kind| inside(kind) == "1")
+                .is_some_and(|kind| matches!(inside(kind), "1" | "17"))
         };
         let posts = rows
             .iter()

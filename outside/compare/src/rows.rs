@@ -4,11 +4,13 @@
 use model::{relay, Head, Post, COUNT_LIMIT};
 
 use crate::alterations::*;
-use crate::buttons::{at_a_jammed_post, some_jammed_post};
-use crate::histories::{lively_event, near_stamp, some_posts, table, wild_step, Play};
+use crate::buttons::at_a_jammed_post;
+use crate::histories::{lively_event, near_stamp, some_posts, wild_step, Play};
 use crate::random::Random;
-use crate::request::Request;
+use crate::request::{Request, Step};
 use crate::solved::solved;
+use crate::strikes::about_passage_at;
+use crate::tables::{in_some_form, kind_inside, table};
 use crate::variety::Variety;
 
 pub const HEADS: &[Variety] = &[
@@ -29,12 +31,18 @@ pub const ALTERED: &[Variety] = &[
     ("upper bit flipped", |random| altered(random, flip_upper)),
     ("jam flipped", |random| altered(random, flip_jam)),
     ("jam at the origin", |random| altered(random, jam_origin)),
+    ("passage not announced", |random| {
+        altered(random, early_passage)
+    }),
     ("count one more", |random| altered(random, count_more)),
     ("count one less", |random| altered(random, count_less)),
     ("counts moved", |random| altered(random, move_counts)),
     ("huge count", |random| altered(random, huge_count)),
     ("wrong kind", |random| altered(random, wrong_kind)),
-    ("kind inside", |random| altered(random, kind_inside)),
+    ("kind inside", |random| altered(random, other_inside)),
+    ("kind in its other form", |random| {
+        altered(random, form_changed)
+    }),
     ("records swapped", |random| altered(random, swap_records)),
     ("any words", |random| altered(random, any_words)),
     ("all any words", |random| altered(random, all_any_words)),
@@ -48,6 +56,9 @@ pub const ALTERED: &[Variety] = &[
     }),
     ("jam at the origin, counts solved", |random| {
         built(random, jam_origin)
+    }),
+    ("passage not announced, counts solved", |random| {
+        built(random, early_relay)
     }),
     ("relays any, counts solved", |random| {
         built(random, any_relays)
@@ -63,7 +74,7 @@ pub const ALTERED: &[Variety] = &[
         asked(random, play, |random, play| {
             flip_relay(random, play);
             count_more(random, play);
-            kind_inside(random, play);
+            other_inside(random, play);
         })
     }),
 ];
@@ -95,17 +106,14 @@ fn asked(random: &mut Random, mut play: Play, change: Alteration) -> Request {
             head: play.head,
         };
     }
-    let step = match (random.below(5), some_jammed_post(random, &play.row)) {
+    let step = match random.below(5) {
         // An event that the line would have taken before the alteration.
-        (0 | 1, _) => {
+        0 | 1 => {
             let stamp = near_stamp(random, ahead.head.last);
             lively_event(random, &mut ahead, stamp)
         }
-        (2, Some(post)) => {
-            let (number, place) = at_a_jammed_post(random, post);
-            [number, place, near_stamp(random, play.head.last)]
-        }
-        (3, _) => wild_step(random, &play, [10, 10, 10]),
+        2 => about_some_post(random, &play),
+        3 => wild_step(random, &play, [10, 10, 10]),
         _ => wild_step(random, &play, [0, 0, 0]),
     };
     Request::Event {
@@ -113,6 +121,29 @@ fn asked(random: &mut Random, mut play: Play, change: Alteration) -> Request {
         head: play.head,
         step,
     }
+}
+
+/// An event about a post that is jammed, or that has a passage or an announcement recorded,
+/// if there is one.
+fn about_some_post(random: &mut Random, play: &Play) -> Step {
+    let row = &play.row;
+    let about_jams = random.chance(50);
+    let mask = if about_jams {
+        relay::JAM
+    } else {
+        relay::AN | relay::KPG
+    };
+    let such: Vec<usize> = (0..row.len()).filter(|at| row[*at].is_up(mask)).collect();
+    if such.is_empty() {
+        return wild_step(random, play, [0, 0, 0]);
+    }
+    let post = random.pick(&such);
+    let (number, place) = if about_jams {
+        at_a_jammed_post(random, post)
+    } else {
+        about_passage_at(random, row, post)
+    };
+    [number, place, near_stamp(random, play.head.last)]
 }
 
 fn altered(random: &mut Random, change: Alteration) -> Request {
@@ -136,8 +167,8 @@ fn odd_length(random: &mut Random) -> Request {
         let terminus = at + 1 == posts && at > 0;
         let kind = match at {
             0 => 0,
-            _ if terminus => 1,
-            _ => random.small(2, 4),
+            _ if terminus => in_some_form(random, 1),
+            _ => kind_inside(random),
         };
         let word = if terminus { 0 } else { relay::L | relay::RL };
         row.push(Post {

@@ -2,7 +2,7 @@
 
 use std::cmp::Ordering;
 
-use model::Entry;
+use model::{kind, Entry};
 
 use crate::counts::Wanted;
 use crate::questions::{OF_JAMS, TOLD};
@@ -23,6 +23,12 @@ pub const SEEN: &[Wanted<Question>] = &[
     ("13 since an arrival", |q| q.since(13) && q.is_named(8)),
     ("13 since a restoration", |q| q.since(13) && q.is_named(10)),
     ("13 since the start", |q| q.since(13) && q.named == 0),
+    ("8 at a short post", |q| q.since(8) && q.of_a_short_post()),
+    ("9 at a short post", |q| q.since(9) && q.of_a_short_post()),
+    ("13 at a short post", |q| q.since(13) && q.of_a_short_post()),
+    ("13 at a short post, struck early", |q| {
+        q.since(13) && q.of_a_short_post() && q.struck_early()
+    }),
     ("29, an answer before it altered", |q| {
         q.altered(Ordering::Less)
     }),
@@ -119,6 +125,30 @@ impl Question {
 
     fn announced_since(&self) -> bool {
         self.had(self.named, |event| event[0] == 5 && event[2] == 0)
+    }
+
+    fn of_a_short_post(&self) -> bool {
+        let kinds = self.sheet.as_ref().map(|sheet| &sheet.kinds[..]);
+        let post = self.chosen().map_or(0, |event| event[1]);
+        kinds
+            .and_then(|kinds| kinds.get(post as usize))
+            .is_some_and(|&of| kind::is_short(of))
+    }
+
+    /// The last strike at the chosen event's post, since its last release, came before what
+    /// arrived there last.
+    fn struck_early(&self) -> bool {
+        let post = self.chosen().map_or(0, |event| event[1]);
+        let about = |event: &&Entry| match event[0] {
+            _ if event[2] != 0 => false,
+            3 | 6 | 7 => event[1] == post,
+            8 => event[1] + 1 == post,
+            _ => false,
+        };
+        let before = &self.events()[..(self.position as usize).saturating_sub(1)];
+        let numbers = before.iter().rev().filter(about).map(|event| event[0]);
+        let mut numbers = numbers.skip_while(|number| *number == 3);
+        (numbers.next(), numbers.next()) == (Some(8), Some(3))
     }
 
     /// 29, and nothing is wrong but one answer, which stands so to the chosen event.

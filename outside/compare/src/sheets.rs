@@ -2,8 +2,9 @@
 
 use model::{renew_check, Entry, BLOCK_BYTES, EVENTS_PER_BLOCK, MOST_EVENTS, UNANSWERED};
 
-use crate::histories::{lively_event, near_stamp, some_posts, table, Next, Play};
+use crate::histories::{lively_event, near_stamp, some_posts, Next, Play};
 use crate::random::Random;
+use crate::tables::table;
 
 /// A table, a start stamp and events.
 #[derive(Clone)]
@@ -75,6 +76,11 @@ pub fn lively_sheet(random: &mut Random, posts: usize, count: usize) -> Sheet {
 /// An unanswered sheet of a history of such events.
 pub fn sheet_by(random: &mut Random, posts: usize, count: usize, next: Next) -> Sheet {
     let kinds = table(random, posts);
+    sheet_on(random, kinds, count, next)
+}
+
+/// The same on this table.
+pub fn sheet_on(random: &mut Random, kinds: Vec<u32>, count: usize, next: Next) -> Sheet {
     let stamp = random.edge_word();
     let mut play = Play::from_start(&kinds, stamp);
     let mut events = Vec::with_capacity(count);

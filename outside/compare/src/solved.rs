@@ -1,31 +1,37 @@
 //! Lines whose relays are chosen first and whose counts then follow from them, so
 //! that one rule on relays can be broken alone.
 
-use model::{relay, Post};
+use model::{kind, relay, Post};
 
 use crate::alterations::{most_count, Alteration};
-use crate::histories::{some_posts, table, Play};
+use crate::histories::{some_posts, Play};
 use crate::random::Random;
+use crate::tables::table;
 
 /// Relays chosen within the rules, one post and its section downstream at a time.
 fn right_relays(random: &mut Random, row: &mut [Post]) {
     use relay::{AN, JAM, KPG, L, LEVER, RL, SIGNAL, W241, W314};
     for at in 0..row.len() {
-        if row[at].kind == 1 {
+        let ordinary = kind::ordinary(row[at].kind);
+        if ordinary == 1 {
             row[at].word |= random.pick(&[0, LEVER, LEVER | SIGNAL]);
         } else if random.chance(50) {
             let (here, down) = random.pick(&[(0, 0), (0, AN), (0, AN | KPG), (W314, 0), (W241, 0)]);
             row[at].word |= here;
             row[at + 1].word |= down;
-        } else if row[at].kind == 3 || row[at].kind == 4 {
+        } else if ordinary == 3 || ordinary == 4 {
             row[at].word |= RL | L | random.pick(&[0, LEVER | SIGNAL]);
         } else {
             row[at].word |= RL | random.pick(&[0, L, LEVER, L | LEVER | SIGNAL]);
         }
     }
-    // The jam goes with all of them; the origin has none.
+    // The jam goes with all of them, and so does a passage at a short post; the origin has
+    // neither.
     for post in &mut row[1..] {
         post.word |= random.pick(&[0, 0, 0, JAM]);
+        if kind::is_short(post.kind) {
+            post.word |= random.pick(&[0, 0, 0, KPG]);
+        }
     }
 }
 
@@ -51,7 +57,7 @@ fn solve_counts(random: &mut Random, row: &mut [Post], most: u32) {
         row[at + 1].e = e;
         row[at + 1].q = e + one_if(down.is_up(relay::KPG));
         row[at + 1].r = e + recorded;
-        if down.kind == 2 || down.kind == 3 {
+        if matches!(kind::ordinary(down.kind), 2 | 3) {
             row[at + 1].c = random
                 .small(0, e.min(3))
                 .max(if random.chance(30) { e } else { 0 });

@@ -4,6 +4,7 @@
 use crate::misprints::{alter, inside};
 use crate::random::Random;
 use crate::request::Request;
+use crate::tables::{any_number, in_some_form, kind_inside};
 use crate::texts::{import_somewhere, quoted, some_text, some_written, Place, Record, Text};
 use crate::variety::Variety;
 use crate::writes::any_sheet_of;
@@ -37,22 +38,24 @@ pub const SPOILED: &[Variety] = &[
     }),
     ("a table with no end", |random| {
         spoiled(random, 0, |random, text| {
-            let kind = random.small(2, 4).to_string();
+            let kind = kind_inside(random).to_string();
             let at = 1 + text.posts;
             alter(&mut text.records[at].fields[1], |_| kind);
             text.records.truncate(at + 1);
         })
     }),
     ("31 posts and no end", |random| {
-        long_table(random, 31, false)
+        let kind = kind_inside(random);
+        long_table(random, 31, Some(kind))
     }),
-    ("32 posts and no end", |random| {
-        long_table(random, 32, false)
+    ("32 posts, any number for the last kind", |random| {
+        let number = any_number(random);
+        long_table(random, 32, Some(number))
     }),
-    ("33 posts", |random| long_table(random, 33, true)),
+    ("33 posts", |random| long_table(random, 33, None)),
     ("34 posts and more", |random| {
         let posts = random.pick(&[34, 64, 65, 200, 257]);
-        long_table(random, posts, true)
+        long_table(random, posts, None)
     }),
     ("event out of its range", |random| {
         out_of_range(random, 1, 32)
@@ -238,26 +241,25 @@ fn alter_number(random: &mut Random, field: &mut String) {
 
 /// Any kind that there is, or one that there is not.
 fn put_kind(random: &mut Random, text: &mut Text, at: usize) {
-    let wrong = random.pick(&[
-        "0", "1", "2", "3", "4", "5", "6", "9", "10", "17", "31", "255",
-    ]);
-    alter(&mut text.records[at].fields[1], |_| wrong.to_string());
+    let number = any_number(random).to_string();
+    alter(&mut text.records[at].fields[1], |_| number);
 }
 
-/// A table that would be right if it were not so long, or that has no end.
-fn long_table(random: &mut Random, posts: usize, ended: bool) -> Request {
+/// A table that would be right if it were not so long, or whose last kind is another.
+fn long_table(random: &mut Random, posts: usize, last: Option<u32>) -> Request {
     let count = random.between(0, 2);
     let mut text = Text::of(&any_sheet_of(random, posts, count));
-    if !ended {
-        text.records[1 + posts].fields[1] = random.small(2, 4).to_string();
+    if let Some(kind) = last {
+        text.records[1 + posts].fields[1] = kind.to_string();
         // Behind it: events, nothing, or one post more, which would end the table.
         if random.chance(50) {
             text.records.truncate(2 + posts);
         }
         if random.chance(50) {
             text.records.truncate(2 + posts);
+            let last = in_some_form(random, 1).to_string();
             text.records.push(Record {
-                fields: ["", "1", &posts.to_string(), "", ""]
+                fields: ["", &last, &posts.to_string(), "", ""]
                     .map(str::to_string)
                     .to_vec(),
                 end: "\r\n",

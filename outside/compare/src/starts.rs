@@ -2,9 +2,9 @@
 
 use model::Post;
 
-use crate::histories::table;
 use crate::random::Random;
 use crate::request::{post_of, Request, POST_WORDS};
+use crate::tables::{any_number, put_number, table, Place, KINDS};
 use crate::variety::Variety;
 
 pub const STARTS: &[Variety] = &[
@@ -19,7 +19,7 @@ pub const STARTS: &[Variety] = &[
         start(random, kinds, posts)
     }),
     ("right-looking, too short", |random| {
-        let kinds = random.pick(&[&[] as &[u32], &[0], &[1]]).to_vec();
+        let kinds = random.pick(&[&[] as &[u32], &[0], &[1], &[17]]).to_vec();
         let posts = kinds.len();
         start(random, kinds, posts)
     }),
@@ -35,26 +35,35 @@ pub const STARTS: &[Variety] = &[
         start(random, kinds, row)
     }),
     ("kind out of range", |random| {
-        let kind = random.pick(&[5, 6, 31, 256, 0x8000_0002, u32::MAX]);
+        let kind = random.pick(&[5, 6, 16, 21, 31, 256, 0x8000_0002, u32::MAX]);
         one_kind(random, kind)
     }),
     ("origin or terminus inside", |random| {
-        let kind = random.pick(&[0, 1]);
+        let kind = random.pick(&[0, 1, 17]);
         one_kind(random, kind)
     }),
-    ("first or last wrong", |random| {
-        let posts = random.between(2, 32);
-        let mut kinds = table(random, posts);
-        let at = random.pick(&[0, posts - 1]);
-        kinds[at] = random.small(0, 5);
-        start(random, kinds, posts)
-    }),
+    ("any number first", |random| any_at(random, Place::First)),
+    ("any number inside", |random| any_at(random, Place::Inside)),
+    ("any number last", |random| any_at(random, Place::Last)),
     ("any table", |random| {
         let posts = random.between(0, 64);
-        let kinds = (0..posts).map(|_| random.small(0, 5)).collect();
+        let kinds = (0..posts).map(|_| random.pick(&KINDS)).collect();
+        start(random, kinds, posts)
+    }),
+    ("any numbers", |random| {
+        let posts = random.between(0, 64);
+        let kinds = (0..posts).map(|_| any_number(random)).collect();
         start(random, kinds, posts)
     }),
 ];
+
+/// Any number in this place of a right table.
+fn any_at(random: &mut Random, place: Place) -> Request {
+    let posts = random.between(2, 32);
+    let mut kinds = table(random, posts);
+    put_number(random, &mut kinds, place);
+    start(random, kinds, posts)
+}
 
 /// One post has this kind, most often one inside.
 fn one_kind(random: &mut Random, kind: u32) -> Request {

@@ -2,22 +2,27 @@
 
 use std::fmt::Write;
 
+use model::kind;
+
 use crate::cases::{Case, Sort, ALTERED_ROWS};
 use crate::checked::{Checked, CHECKED};
 use crate::counts::Counts;
-use crate::moments::{Altered, Moment, ALTERED, MOMENTS};
+use crate::moments::{Altered, Goes, Moment, ALTERED, MOMENTS};
 use crate::registers::{Export, Import, EXPORTS, IMPORTS, LONG, LONG_FROM};
 use crate::request::{Request, POST_WORDS};
 use crate::seen::{Question, RARELY, SEEN};
+use crate::shorts::{AT_ALTERED, AT_MOMENTS};
+use crate::stood::Stood;
+use crate::tables::KINDS;
 
 /// The numbers that a call can return: 0 to 23, 28 and 29.
 const ANSWERS: [usize; 26] = [
     0, 1, 2, 3, 4, 5, 6, 7, 8, 9, 10, 11, 12, 13, 14, 15, 16, 17, 18, 19, 20, 21, 22, 23, 28, 29,
 ];
 
-/// The events which can be taken at each kind (for 8, 9 and 10: the kind of the
-/// section's upstream post).
-const CAN_BE_TAKEN: [(usize, &[usize]); 12] = [
+/// The events which can be taken at each kind, in both its forms (for 8, 9 and 10: the kind
+/// of the section's upstream post).
+const CAN_BE_TAKEN: [(usize, &[u32]); 12] = [
     (1, &[0, 1, 2, 3, 4]),
     (2, &[0, 1, 2, 3, 4]),
     (3, &[1, 2, 3, 4]),
@@ -32,14 +37,18 @@ const CAN_BE_TAKEN: [(usize, &[usize]); 12] = [
     (12, &[1, 2, 3, 4]),
 ];
 
+/// The events taken, by their number and the kind, of which 20 is the last.
+type Taken = [[u64; 21]; 13];
+
 pub struct Tally {
     pub cases: Vec<Vec<u64>>,
     pub events: Vec<u64>,
     pub answers: [u64; 32],
     pub altered_valid: u64,
-    pub taken: [[u64; 5]; 13],
+    pub taken: Taken,
     pub moments: Counts<Moment>,
     pub altered: Counts<Altered>,
+    pub stood: Stood,
     pub questions: Counts<Question>,
     pub imports: Counts<Import>,
     pub long: Counts<Import>,
@@ -54,9 +63,10 @@ impl Tally {
             events: vec![0; sorts.len()],
             answers: [0; 32],
             altered_valid: 0,
-            taken: [[0; 5]; 13],
-            moments: Counts::new("events in histories", MOMENTS),
-            altered: Counts::new("altered rows", ALTERED),
+            taken: [[0; 21]; 13],
+            moments: Counts::with_kinds("events in histories", MOMENTS, AT_MOMENTS),
+            altered: Counts::with_kinds("altered rows", ALTERED, AT_ALTERED),
+            stood: Stood::default(),
             questions: Counts::new("questions of since when", SEEN),
             imports: Counts::new("texts", IMPORTS),
             long: Counts::new("long texts", LONG),
@@ -76,6 +86,7 @@ impl Tally {
             Request::Valid { .. } | Request::Check { .. } => {}
             _ => self.answers[first as usize] += 1,
         }
+        self.stood.add(&case.request);
         self.add_seen(case, &sorts[case.sort].varieties[case.variety]);
         if sorts[case.sort].name == ALTERED_ROWS {
             self.add_altered(&case.request, first);
@@ -112,14 +123,15 @@ impl Tally {
         let size = 3 + kinds.len() * POST_WORDS;
         self.answers[expected[0] as usize] += 1;
         let told: Vec<&[u32]> = expected.chunks(size).collect();
+        let mut goes = Goes::default();
         for (&step, pair) in steps.iter().zip(told.windows(2)) {
-            let (records, answer) = (&pair[0][3..], pair[1][0]);
+            let (before, after, answer) = (&pair[0][3..], &pair[1][3..], pair[1][0]);
             self.answers[answer as usize] += 1;
             if answer == 0 {
                 let kind = kinds[step[1] as usize];
                 self.taken[step[0] as usize][kind as usize] += 1;
             }
-            self.moments.add(&Moment::new(records, step, answer));
+            self.moments.add(&goes.moment(before, after, step, answer));
         }
     }
 
@@ -154,12 +166,14 @@ impl Tally {
             }
         }
         for (event, kinds) in CAN_BE_TAKEN {
-            for kind in kinds {
-                if self.taken[event][*kind] == 0 {
+            let can = |taken_at: &u32| kinds.contains(&kind::ordinary(*taken_at));
+            for kind in KINDS.into_iter().filter(can) {
+                if self.taken[event][kind as usize] == 0 {
                     lines.push(format!("event {event} was never taken at kind {kind}"));
                 }
             }
         }
+        lines.extend(self.stood.missing());
         lines.extend(self.moments.rare(u64::MAX));
         lines.extend(self.altered.rare(u64::MAX));
         lines.extend(self.questions.rare(RARELY));
@@ -190,15 +204,9 @@ impl Tally {
         for answer in ANSWERS {
             let _ = writeln!(text, "  {answer:2} {:9}", self.answers[answer]);
         }
-        text.push_str("events taken in histories, by kind 0 to 4:\n");
-        for (event, counts) in self.taken.iter().enumerate().skip(1) {
-            let _ = write!(text, "  {event:2}");
-            for count in counts {
-                let _ = write!(text, " {count:8}");
-            }
-            text.push('\n');
-        }
         for counts in [
+            self.taken_text(),
+            self.stood.text(),
             self.moments.text(),
             self.altered.text(),
             self.questions.text(),
@@ -208,6 +216,19 @@ impl Tally {
             self.blocks.text(),
         ] {
             text.push_str(&counts);
+        }
+        text
+    }
+
+    fn taken_text(&self) -> String {
+        let mut text = "events taken in histories, by kind 0 to 4 and 17 to 20:\n".to_string();
+        for (event, counts) in self.taken.iter().enumerate().skip(1) {
+            // Writing to a String cannot fail.
+            let _ = write!(text, "  {event:2}");
+            for kind in KINDS {
+                let _ = write!(text, " {:8}", counts[kind as usize]);
+            }
+            text.push('\n');
         }
         text
     }

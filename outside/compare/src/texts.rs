@@ -231,10 +231,10 @@ pub const RIGHT: &[Variety] = &[
     ("no output", |random| into_room(random, -99_999)),
 ];
 
-/// A short register: three posts and two events.
+/// A short register: three posts, the last of two digits, and two events.
 fn short() -> Text {
     Text::of(&Sheet {
-        kinds: vec![0, 3, 1],
+        kinds: vec![0, 3, 17],
         stamp: 17,
         events: vec![[5, 0, 31, 1000], [12, 63, 0, u32::MAX]],
     })

@@ -6,9 +6,11 @@ use std::process::{self, Stdio};
 use std::sync::atomic::{AtomicU32, Ordering::Relaxed};
 
 use model::program::{Wrote, USAGE};
-use model::{paper, stuck, MOST_EVENTS, UNANSWERED};
+use model::{paper, short, stuck, MOST_EVENTS, UNANSWERED};
 
-use crate::fixed::{computed, from_0, papers_sheet, short_sheet, stuck_sheet, Fixed, BUILT};
+use crate::fixed::{
+    computed, early_sheet, from_0, papers_sheet, short_sheet, stuck_sheet, Fixed, BUILT,
+};
 use crate::ran::{compared, run, run_on, with_words, Given};
 use crate::random::Random;
 use crate::sheets::{lively_sheet, put, renewed, Sheet};
@@ -31,6 +33,7 @@ pub fn work_cases() -> Vec<Fixed> {
     };
     let worked = papers_sheet().worked().bytes();
     let stuck = from_0(&stuck::KINDS, stuck::answered()).bytes();
+    let early = from_0(&short::KINDS, short::answered()).bytes();
     let mut damaged = papers_sheet().bytes();
     put(&mut damaged, 1, 126, 1);
     let (long, renewed) = (vec![1; 3_000_000], renewed(damaged.clone(), 1));
@@ -41,6 +44,7 @@ pub fn work_cases() -> Vec<Fixed> {
             worked.clone(),
         ),
         good("work: a button sticks and is freed", stuck_sheet(), stuck),
+        good("work: early trains", early_sheet(), early),
         refused("work: empty input", vec![], "refused 18 0\n"),
         refused("work: 3,000,000 bytes", long, "refused 18 0\n"),
         refused("work: wrong check", damaged, "refused 19 1\n"),
@@ -124,9 +128,11 @@ pub fn why_cases() -> Vec<Fixed> {
         ),
         case("3,780 events", &["why", "3780"], full, "3778 5 0 0\n"),
     ]);
-    let stuck = stuck_sheet().worked();
+    let (stuck, early) = (stuck_sheet().worked(), early_sheet().worked());
     let name = "a button sticks and is freed";
     cases.extend(questions_of(name, &stuck, stuck::SINCE));
+    let name = "early trains";
+    cases.extend(questions_of(name, &early, short::SINCE));
     cases
 }
 

@@ -2,10 +2,11 @@
 
 use model::Entry;
 
-use crate::histories::{some_posts, table};
+use crate::histories::some_posts;
 use crate::random::Random;
 use crate::request::Request;
 use crate::sheets::{some, Sheet};
+use crate::tables::{put_number, table, Place};
 use crate::variety::Variety;
 
 pub const WRITES: &[Variety] = &[
@@ -39,6 +40,9 @@ pub const WRITES: &[Variety] = &[
         wrong_table(random, &mut sheet);
         written(random, sheet, 0)
     }),
+    ("any number first", |random| any_at(random, Place::First)),
+    ("any number inside", |random| any_at(random, Place::Inside)),
+    ("any number last", |random| any_at(random, Place::Last)),
     ("several faults", several_faults),
 ];
 
@@ -100,6 +104,14 @@ fn out_of_field(random: &mut Random, field: usize) -> Request {
     written(random, sheet, 0)
 }
 
+/// Any number in this place of a right table.
+fn any_at(random: &mut Random, place: Place) -> Request {
+    let (posts, count) = (some_posts(random).max(3), random.between(0, 5));
+    let mut sheet = any_sheet_of(random, posts, count);
+    put_number(random, &mut sheet.kinds, place);
+    written(random, sheet, 0)
+}
+
 pub fn wrong_table(random: &mut Random, sheet: &mut Sheet) {
     let posts = sheet.kinds.len();
     match random.below(4) {
@@ -108,8 +120,8 @@ pub fn wrong_table(random: &mut Random, sheet: &mut Sheet) {
             let posts = random.pick(&[33, 34, 64]);
             sheet.kinds = table(random, posts);
         }
-        2 => sheet.kinds[0] = random.small(1, 5),
-        _ => sheet.kinds[posts - 1] = random.pick(&[0, 2, 5, u32::MAX]),
+        2 => sheet.kinds[0] = random.pick(&[1, 2, 3, 4, 5, 16, 17]),
+        _ => sheet.kinds[posts - 1] = random.pick(&[0, 2, 5, 16, 18, 21, u32::MAX]),
     }
 }
 

@@ -274,5 +274,7 @@ fn some_inputs_that_fail_would_be_good_sheets() {
 fn the_sheet_of_everything_is_built() {
     let sheet = sheet_of_everything();
     assert_eq!(sheet.kinds.len(), 32);
-    assert!((2..=4).all(|kind| sheet.kinds.contains(&kind)));
+    assert!((2..=4)
+        .chain(17..=20)
+        .all(|kind| sheet.kinds.contains(&kind)));
 }

@@ -3,7 +3,7 @@
 
 mod common;
 
-use common::{must_differ, refused, right, Events, Played};
+use common::{answered, changed, first, must_differ, refused, right, Events, Played};
 use compare::desk::Desk;
 use compare::sheets::Sheet;
 use model::relay::{AN, JAM, KPG, L, LEVER, RL, W241, W314};
@@ -11,24 +11,6 @@ use model::{Head, Post, Since, Told, Worked};
 
 /// A fault: its name and the events with it.
 type Fault = (&'static str, fn(Played) -> Told);
-
-/// The model's event, and then a change to the post that it names and the one downstream,
-/// where this holds: by the post and the one downstream before it, and its number.
-fn changed(
-    (row, head, step): Played,
-    holds: fn(&Post, &Post, u32) -> bool,
-    change: fn(&mut Post, &mut Post),
-) -> Told {
-    let before = row.to_vec();
-    let told = right((&mut *row, head, step));
-    let at = step[1] as usize;
-    let mut next = Post::default();
-    if told.answer == 0 && holds(&before[at], before.get(at + 1).unwrap_or(&next), step[0]) {
-        let (front, back) = row.split_at_mut(at + 1);
-        change(&mut front[at], back.first_mut().unwrap_or(&mut next));
-    }
-    told
-}
 
 /// The same change, after every event of this number that is taken.
 fn changed_by(number: u32, played: Played, change: fn(&mut Post, &mut Post)) -> Told {
@@ -44,27 +26,6 @@ fn lost(up: &Post, down: &Post, number: u32) -> bool {
     number == 8 && up.is_up(W314) && down.is_up(JAM)
 }
 
-/// The same event, but another answer where this gives one: by the row before it, its
-/// number and place, and the right answer. 0 is taken with no effect.
-fn answered((row, head, step): Played, other: fn(&[Post], u32, usize, u32) -> Option<u32>) -> Told {
-    let mut after = row.to_vec();
-    let told = right((&mut after, head, step));
-    match other(row, step[0], step[1] as usize, told.answer) {
-        Some(0) => Told {
-            answer: 0,
-            head: Head {
-                taken: head.taken + 1,
-                last: step[2],
-            },
-        },
-        Some(answer) => refused(answer, head),
-        None => {
-            row.copy_from_slice(&after);
-            told
-        }
-    }
-}
-
 /// The event as if its post were not jammed, where it is answered 22 and this holds.
 fn not_refused((row, head, step): Played, holds: fn(&Post, u32) -> bool) -> Told {
     let told = right((&mut *row, head, step));
@@ -76,11 +37,6 @@ fn not_refused((row, head, step): Played, holds: fn(&Post, u32) -> bool) -> Told
     let told = right((&mut *row, head, step));
     row[at].raise(JAM);
     told
-}
-
-/// The first of these that holds.
-fn first(list: &[(bool, u32)]) -> Option<u32> {
-    list.iter().find(|(holds, _)| *holds).map(|pair| pair.1)
 }
 
 const ARRIVALS: &[Fault] = &[

@@ -12,6 +12,7 @@ use compare::registers::{EXPORTS, IMPORTS, LONG};
 use compare::run::compare;
 use compare::seen::SEEN;
 use compare::sheets::{blocks, get, put, renew};
+use compare::shorts::{AT_ALTERED, AT_MOMENTS};
 use model::{relay, Entry, Found, Head, Post, Told, Worked};
 
 #[test]
@@ -43,10 +44,12 @@ fn what_does_not_come_up_is_missed() {
     assert_eq!(lines("long texts, "), LONG.len());
     assert_eq!(lines("exports, "), EXPORTS.len());
     assert_eq!(lines("single blocks, "), CHECKED.len());
-    assert_eq!(lines("events in histories, "), MOMENTS.len());
-    assert_eq!(lines("altered rows, "), ALTERED.len());
+    let moments = MOMENTS.len() + AT_MOMENTS.lines();
+    assert_eq!(lines("events in histories, "), moments);
+    assert_eq!(lines("altered rows, "), ALTERED.len() + AT_ALTERED.lines());
+    assert_eq!(lines("tables, "), 132);
     assert_eq!(lines("answer "), 26);
-    assert_eq!(lines("event "), 47);
+    assert_eq!(lines("event "), 87);
 }
 
 /// The gate's whole run in this process: cargo test --release -- --ignored.

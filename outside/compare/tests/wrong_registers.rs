@@ -47,7 +47,7 @@ fn rows(text: &[u8], out: &mut [u8], mend: impl Fn(usize, usize, &str) -> String
         for (at, row) in text.split(CRLF).enumerate() {
             let row = mend(at, posts, row);
             let kind = row.split(',').nth(1).map(inside);
-            if at > 1 && posts == 0 && kind == Some("1") {
+            if at > 1 && posts == 0 && matches!(kind, Some("1" | "17")) {
                 posts = at - 1;
             }
             rows.push(row);

@@ -15,7 +15,8 @@ pub mod relay {
     pub const JAM: u32 = 256;
 }
 
-/// The record of a post, laid out as `struct desk_post`.
+/// The record of a post, laid out as `struct desk_post`. Its kind is 0 to 4, or 17 to 20: the short forms of 1 to 4,
+/// whose passage pedal asks no announcement.
 #[repr(C)]
 #[derive(Clone, Copy, Debug, Default, PartialEq, Eq)]
 pub struct Post {
@@ -119,7 +120,7 @@ pub struct Imported {
 }
 
 /// A room that the register of any sheet fits into, and one that any sheet fits into.
-pub const TEXT: usize = 98_618;
+pub const TEXT: usize = 98_650;
 pub const SHEET: usize = 32_768;
 
 /// An event of a sheet: number, post (8, 9, 10: section), answer, stamp.

@@ -1,11 +1,11 @@
 //! Each call once through the wrapper: that pointers, counts and returned structs meet the C calling convention.
-use desk::relay::{AN, JAM, RL, W241, W314};
+use desk::relay::{AN, JAM, KPG, RL, W241, W314};
 use desk::{
-    check, event, export, import, read, start, test, valid, why, work, write, Exported, Head,
-    Imported, Post, Since, Verdict, SHEET, TEXT,
+    check, event, export, import, read, start, test, valid, why, work, write, Entry, Exported,
+    Head, Imported, Post, Since, Verdict, SHEET, TEXT,
 };
 use model::paper::{answered, unanswered, KINDS, REGISTER};
-use model::stuck;
+use model::{short, stuck, MOST_TEXT};
 
 fn is_last(row: &[Post]) -> bool {
     let (up, down) = (row[0], row[1]);
@@ -51,20 +51,45 @@ fn the_listing_as_a_sheet() {
     assert_eq!(events[15], [9; 4]);
 }
 
-#[test]
-fn a_jam_event_by_event() {
-    let mut row = [Post::default(); 3];
-    let mut told = start(&mut row, &stuck::KINDS, 0);
-    for [number, place, answer, stamp] in stuck::answered() {
+/// Each event of an example, one after the other from a fresh line.
+fn played<const N: usize>(kinds: &[u32; N], events: &[Entry]) -> ([Post; N], Head) {
+    let mut row = [Post::default(); N];
+    let mut told = start(&mut row, kinds, 0);
+    for &[number, place, answer, stamp] in events {
         told = event(&mut row, told.head, number, place, stamp);
         assert_eq!(told.answer, answer, "event {number} at {place}");
     }
+    (row, told.head)
+}
+
+#[test]
+fn a_jam_event_by_event() {
+    let (mut row, head) = played(&stuck::KINDS, &stuck::answered());
     assert_eq!((row[0].x, row[1].r), (2, 1));
     assert_eq!(row[0].word & (RL | W314 | W241), 0);
     assert_eq!(row[1].word & (AN | JAM), JAM);
-    assert!(valid(&row, told.head));
+    assert!(valid(&row, head));
     row[0].word |= JAM;
-    assert!(!valid(&row, told.head));
+    assert!(!valid(&row, head));
+}
+
+#[test]
+fn short_posts_event_by_event() {
+    let (mut row, head) = played(&short::KINDS, &short::answered());
+    assert_eq!(row.map(|post| post.q), [0, 2, 1, 1]);
+    assert_eq!(row.map(|post| post.e), [0, 2, 1, 1]);
+    assert_eq!(row[1].c, 1);
+    // A passage with no announcement may stand at a short post, and at no other.
+    for (post, may) in [(1, true), (2, false), (3, true)] {
+        let before = row;
+        assert!(valid(&row, head));
+        row[post].word |= KPG;
+        row[post].q += 1;
+        assert_eq!(valid(&row, head), may, "post {post}");
+        row = before;
+    }
+    row[0].kind = 16;
+    assert!(!valid(&row, head));
 }
 
 #[test]
@@ -80,6 +105,39 @@ fn a_jam_as_a_sheet() {
     assert_eq!(worked.row.posts()[1].word & JAM, JAM);
     assert_eq!(why(&out, 21), since(0, 0, 20));
     assert_eq!(why(&out, 7), since(29, 0, 0));
+}
+
+#[test]
+fn short_posts_as_a_sheet() {
+    let (mut sheet, mut answered, mut out) = ([0; 1024], [0; 1024], [0; 1024]);
+    assert_eq!(write(&short::KINDS, 0, &short::unanswered(), &mut sheet), 0);
+    assert_eq!(
+        write(&short::KINDS, 0, &short::answered(), &mut answered),
+        0
+    );
+    let worked = work(&sheet, &mut out);
+    assert_eq!((worked.number, out), (0, answered));
+    assert_eq!(why(&out, 14), since(0, 0, 12));
+    assert_eq!(why(&out, 3), since(29, 0, 0));
+    let (mut text, mut back) = (vec![7; TEXT], [0; 1024]);
+    let told = export(&out, &mut text);
+    assert_eq!((told.number, told.block), (0, 0));
+    assert_eq!(import(&text[..told.bytes], &mut back), imported(0, 0, 1024));
+    assert_eq!(back, out);
+    for kinds in [[16, 17], [0, 16], [0, 21], [0, 18], [17, 17]] {
+        assert_eq!(write(&kinds, 0, &[], &mut out), 1);
+    }
+}
+
+/// The longest register fits the room that any register fits into.
+#[test]
+fn the_longest_register() {
+    let mut kinds = [20; 32];
+    (kinds[0], kinds[31]) = (0, 17);
+    let events = vec![[31, 63, 31, u32::MAX]; 3_780];
+    let (mut sheet, mut text) = (vec![0; SHEET], vec![7; TEXT]);
+    assert_eq!(write(&kinds, u32::MAX, &events, &mut sheet), 0);
+    assert_eq!(export(&sheet, &mut text), exported(0, 0, MOST_TEXT));
 }
 
 #[test]

@@ -51,13 +51,22 @@ fn is_zero(block: &Block, from: usize) -> bool {
         .all(|&byte| byte == 0)
 }
 
+/// A terminus, in either form.
+fn is_last(kind: u32) -> bool {
+    matches!(kind, 1 | 17)
+}
+
+fn is_between(kind: u32) -> bool {
+    matches!(kind, 2..=4 | 18..=20)
+}
+
 fn is_table(block: &Block) -> bool {
     let posts = word(block, 1) as usize;
     word(block, 0) == 1
         && (2..=32).contains(&posts)
         && word(block, 3) == 0
-        && (1..posts - 1).all(|post| (2..=4).contains(&word(block, 3 + post)))
-        && word(block, 2 + posts) == 1
+        && (1..posts - 1).all(|post| is_between(word(block, 3 + post)))
+        && is_last(word(block, 2 + posts))
         && is_zero(block, 3 + posts)
 }
 
@@ -219,7 +228,7 @@ impl Rest<'_> {
     fn post(&mut self, next: u32) -> Option<u32> {
         self.empty()?;
         self.comma()?;
-        let kind = self.number(5)?;
+        let kind = self.number(21)?;
         self.comma()?;
         let post = self.number(32)?;
         self.comma()?;
@@ -229,8 +238,8 @@ impl Rest<'_> {
         self.end()?;
         let may = match next {
             0 => kind == 0,
-            31 => kind == 1,
-            _ => kind != 0,
+            31 => is_last(kind),
+            _ => is_last(kind) || is_between(kind),
         };
         (may && post == next).then_some(kind)
     }
@@ -303,7 +312,7 @@ fn fill(text: &[u8], sheet: &mut [u8]) -> Result<u64, u64> {
         let kind = rest.post(posts).ok_or(record)?;
         put(sheet, 3 + posts as usize, kind);
         posts += 1;
-        if kind == 1 {
+        if is_last(kind) {
             break;
         }
     }

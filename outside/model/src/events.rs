@@ -1,5 +1,6 @@
-//! 01, Events, and the order of refusals under Numbers returned; and 02, item 2, the
-//! stuck release button.
+//! 01, Events, and the order of refusals under Numbers returned; 02, item 2, the stuck
+//! release button; and 02, item 5, short sections, whose refusals are "as those of the
+//! ordinary kind".
 
 use crate::line::relay::{AN, JAM, KPG, L, LEVER, RL, SIGNAL, W241, W314};
 use crate::line::{kind, valid, Head, Post, Told, COUNT_LIMIT};
@@ -61,7 +62,7 @@ fn refusal(row: &[Post], head: Head, number: u32, place: u32, stamp: u32) -> u32
         return BEHIND;
     }
     let place = place as usize;
-    if lacks_device(number, row[place].kind) {
+    if lacks_device(number, kind::ordinary(row[place].kind)) {
         return NO_DEVICE;
     }
     match jam_refusal(&row[place], number) {
@@ -141,18 +142,22 @@ fn first<const K: usize>(list: [(bool, u32); K]) -> u32 {
         .map_or(TAKEN, |&(_, number)| number)
 }
 
+fn is_terminus(post: &Post) -> bool {
+    kind::ordinary(post.kind) == kind::TERMINUS
+}
+
 /// 1: "Refused 7 if already reversed, then 8 if L is down (8 not at the terminus)."
 fn reverse_refusal(post: &Post) -> u32 {
     first([
         (post.is_up(LEVER), LEVER_THERE),
-        (post.kind != kind::TERMINUS && !post.is_up(L), LEVER_LOCKED),
+        (!is_terminus(post) && !post.is_up(L), LEVER_LOCKED),
     ])
 }
 
 /// 6: "refused 11 if An is down, then 12 if KPg is down, then 13 if RL is up
 /// (kinds 2, 3, 4) or 10 if the lever is reversed (kind 1)."
 fn release_refusal(post: &Post) -> u32 {
-    let terminus = post.kind == kind::TERMINUS;
+    let terminus = is_terminus(post);
     first([
         (!post.is_up(AN), NO_ANNOUNCEMENT),
         (!post.is_up(KPG), NO_PASSAGE),
@@ -200,9 +205,11 @@ fn change(row: &mut [Post], number: u32, place: usize) {
 }
 
 /// 3: "if An is up and KPg down, KPg rises and q grows by 1. Otherwise taken with
-/// no effect."
+/// no effect." But at a short post (02, item 5) "event 3 asks only that KPg be down, so
+/// that a strike taken records a passage when none is recorded since the last release".
 fn strike_passage(post: &mut Post) {
-    if post.is_up(AN) && !post.is_up(KPG) {
+    let may_be_early = kind::is_short(post.kind);
+    if (post.is_up(AN) || may_be_early) && !post.is_up(KPG) {
         post.raise(KPG);
         post.q += 1;
     }
@@ -213,7 +220,7 @@ fn strike_passage(post: &mut Post) {
 fn strike_signal(post: &mut Post) {
     if post.is_up(LEVER) {
         post.drop(SIGNAL);
-        if post.kind == kind::ORIGIN || post.kind == kind::STATION_AT_PEDAL {
+        if let kind::ORIGIN | kind::STATION_AT_PEDAL = kind::ordinary(post.kind) {
             post.drop(L);
         }
     }

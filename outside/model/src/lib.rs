@@ -13,12 +13,13 @@ pub mod paper;
 pub mod program;
 mod register;
 mod sheet;
+pub mod short;
 pub mod stuck;
 mod why;
 mod working;
 
 pub use events::{event, event_on_valid};
-pub use line::{kinds_right, relay, start, valid, Head, Post, Told, COUNT_LIMIT};
+pub use line::{kind, kinds_right, relay, start, valid, Head, Post, Told, COUNT_LIMIT};
 pub use listing::listing;
 pub use register::{export, import, Exported, Imported, MOST_TEXT};
 pub use sheet::{

@@ -1,15 +1,32 @@
 //! 01, What the desk is; One post's relays; A line that may be used. The jam, a relay
-//! more, is of 02, item 2.
+//! more, is of 02, item 2, and the short forms of the kinds are of 02, item 5.
 
 use crate::number::{NOT_VALID, TAKEN};
 
-/// 01, the table of kinds.
+/// 01, the table of kinds, and their short forms.
 pub mod kind {
     pub const ORIGIN: u32 = 0;
     pub const TERMINUS: u32 = 1;
     pub const STATION_AT_PEDAL: u32 = 2;
     pub const STATION_AT_ANNOUNCEMENT: u32 = 3;
     pub const INTERMEDIATE: u32 = 4;
+
+    /// 02, item 5: "Kinds 17, 18, 19 and 20 are the short forms of 1, 2, 3 and 4", and "all
+    /// else said of a kind holds for its short form": so every rule asks this of a kind. What
+    /// is no short form is its own; the origin has none, and 16 is no kind.
+    pub fn ordinary(kind: u32) -> u32 {
+        match kind {
+            17 => TERMINUS,
+            18 => STATION_AT_PEDAL,
+            19 => STATION_AT_ANNOUNCEMENT,
+            20 => INTERMEDIATE,
+            _ => kind,
+        }
+    }
+
+    pub fn is_short(kind: u32) -> bool {
+        ordinary(kind) != kind
+    }
 }
 
 /// 01, the table of relays: each bit's mask in the relay word.
@@ -98,8 +115,10 @@ pub fn kinds_right(kinds: &[u32]) -> bool {
     let n = kinds.len();
     (2..=32).contains(&n)
         && kinds[0] == kind::ORIGIN
-        && kinds[n - 1] == kind::TERMINUS
-        && kinds[1..n - 1].iter().all(|k| (2..=4).contains(k))
+        && kind::ordinary(kinds[n - 1]) == kind::TERMINUS
+        && kinds[1..n - 1]
+            .iter()
+            .all(|&k| (2..=4).contains(&kind::ordinary(k)))
 }
 
 /// 01, Fresh line.
@@ -111,7 +130,8 @@ pub fn start(row: &mut [Post], kinds: &[u32], stamp: u32) -> Told {
         };
     }
     for (post, &kind) in row.iter_mut().zip(kinds) {
-        let word = if kind == kind::TERMINUS { 0 } else { L | RL };
+        let terminus = kind::ordinary(kind) == kind::TERMINUS;
+        let word = if terminus { 0 } else { L | RL };
         *post = Post {
             word,
             kind,
@@ -162,7 +182,7 @@ fn row_kinds_right(row: &[Post]) -> bool {
 /// origin" (02, item 2).
 fn stays_down(post: &Post) -> bool {
     let others = !(AN | KPG | L | RL | LEVER | SIGNAL | W314 | W241 | JAM);
-    let here = match post.kind {
+    let here = match kind::ordinary(post.kind) {
         kind::ORIGIN => AN | KPG | JAM,
         kind::TERMINUS => L | RL | W314 | W241,
         _ => 0,
@@ -177,7 +197,7 @@ fn stays_zero(post: &Post) -> bool {
     let downstream_counts = [post.r, post.q, post.e, post.c];
     let upstream_zero = upstream_counts.iter().all(|&count| count == 0);
     let downstream_zero = downstream_counts.iter().all(|&count| count == 0);
-    match post.kind {
+    match kind::ordinary(post.kind) {
         kind::ORIGIN => downstream_zero,
         kind::TERMINUS => upstream_zero && post.c == 0,
         kind::INTERMEDIATE => post.c == 0,
@@ -201,17 +221,19 @@ fn section_counts(up: &Post, down: &Post) -> bool {
         && c <= e
 }
 
-/// "For each post but the terminus: ..." to "KPg requires An."
+/// "For each post but the terminus: ..." to "KPg requires An.", which "now holds at ordinary
+/// posts only" (02, item 5).
 fn post_relays(post: &Post) -> bool {
     let [l, rl, lever, signal] = [L, RL, LEVER, SIGNAL].map(|mask| post.is_up(mask));
-    let rl_rule = post.kind == kind::TERMINUS || rl || (!l && !lever);
-    let kind_rule = match post.kind {
+    let ordinary = kind::ordinary(post.kind);
+    let rl_rule = ordinary == kind::TERMINUS || rl || (!l && !lever);
+    let kind_rule = match ordinary {
         kind::ORIGIN | kind::STATION_AT_PEDAL => !lever || signal == l,
         kind::STATION_AT_ANNOUNCEMENT | kind::INTERMEDIATE => l == rl && signal == lever,
         _ => true,
     };
     let signal_rule = !signal || lever;
-    let passage_rule = !post.is_up(KPG) || post.is_up(AN);
+    let passage_rule = kind::is_short(post.kind) || !post.is_up(KPG) || post.is_up(AN);
     rl_rule && kind_rule && signal_rule && passage_rule
 }
 

@@ -1,7 +1,9 @@
-//! 02, item 3: the register in comma-separated text.
+//! 02, item 3: the register in comma-separated text; of item 5, that short forms may stand
+//! in its table.
 
 use crate::comma::{records, Field};
 use crate::decimal::decimal;
+use crate::line::kind;
 use crate::number::{CANNOT_STAND, TAKEN, TOO_SHORT};
 use crate::sheet::{contents, in_its_field, sheet_length, write, Contents};
 
@@ -22,12 +24,13 @@ pub struct Imported {
     pub bytes: usize,
 }
 
-/// No register is longer: 32 posts and 3,780 events, every number at its longest.
-pub const MOST_TEXT: usize = 97_501;
+/// No register is longer: 32 posts, all but the origin short ones, and 3,780 events, every
+/// number at its longest.
+pub const MOST_TEXT: usize = 97_532;
 
 const HEADER: [&str; 5] = ["position", "event", "post", "stamp", "answer"];
 
-/// At post 31 only a 1 can stand, since a line has at most 32 posts.
+/// At post 31 only a terminus can stand, since a line has at most 32 posts.
 const LAST_POST: usize = 31;
 
 /// "Refusals: export as for reading, then 21."
@@ -117,9 +120,11 @@ fn contents_of(text: &[u8]) -> Result<Contents, u64> {
     Ok(found)
 }
 
-/// "A 1 ends the table."
+/// "A 1 ends the table", in either form.
 fn is_ended(kinds: &[u32]) -> bool {
-    kinds.last() == Some(&1)
+    kinds
+        .last()
+        .is_some_and(|&last| kind::ordinary(last) == kind::TERMINUS)
 }
 
 /// "Every record has five fields." What is no text at all is no right field either.
@@ -138,7 +143,7 @@ fn stand(number: u64, fields: [&str; 5], found: &mut Contents) -> Option<()> {
             Some(())
         }
         _ if !is_ended(&found.kinds) => {
-            let kind = kind(fields, found.kinds.len())?;
+            let kind = post(fields, found.kinds.len())?;
             found.kinds.push(kind);
             Some(())
         }
@@ -160,16 +165,17 @@ fn start(fields: [&str; 5]) -> Option<u32> {
 }
 
 /// `,KIND,POST,,`: "posts in order from 0; kind 0 first; 2, 3 or 4 between; a 1 ends the
-/// table, and at post 31 only a 1 can stand".
-fn kind(fields: [&str; 5], next: usize) -> Option<u32> {
+/// table, and at post 31 only a 1 can stand"; each but the 0 in either form.
+fn post(fields: [&str; 5], next: usize) -> Option<u32> {
     let ["", kind, post, "", ""] = fields else {
         return None;
     };
     let kind = decimal(kind)?;
+    let ordinary = kind::ordinary(kind);
     let may = match next {
-        0 => kind == 0,
-        LAST_POST => kind == 1,
-        _ => (1..=4).contains(&kind),
+        0 => ordinary == kind::ORIGIN,
+        LAST_POST => ordinary == kind::TERMINUS,
+        _ => (1..=4).contains(&ordinary),
     };
     (may && post == next.to_string()).then_some(kind)
 }

@@ -2,39 +2,28 @@
 
 mod common;
 
-use common::{fresh, sheet, work_whole};
-use model::program::{asked, wrote, Wrote};
+use common::{after_on, answered_so, fresh, listed_so, Example};
 use model::relay::{AN, JAM, KPG, L, RL, W241, W314};
 use model::*;
 
 /// A post of each kind: 0 the origin, 1 to 3 of kinds 2, 3 and 4, 4 the terminus.
 const KINDS: [u32; 5] = [0, 2, 3, 4, 1];
 
-/// The line after these events at stamp 0, each of them taken.
 fn after(events: &[(u32, u32)]) -> (Vec<Post>, Head) {
-    let (mut row, mut head) = fresh(&KINDS, 0);
-    for &(number, place) in events {
-        let told = event(&mut row, head, number, place, 0);
-        assert_eq!(told.answer, 0, "{number} at {place} of {events:?}");
-        head = told.head;
-    }
-    (row, head)
+    after_on(&KINDS, events)
 }
 
 #[test]
 fn the_listing_byte_for_byte() {
-    let handed_in = sheet(&stuck::KINDS, 0, &stuck::unanswered());
-    assert_eq!(listing(&handed_in), stuck::LISTING);
-    let answered = sheet(&stuck::KINDS, 0, &stuck::answered());
-    assert_eq!(work_whole(&handed_in), answered);
-    for (words, text) in stuck::SINCE {
-        let given = asked(words).map(|asked| wrote(asked, &answered));
-        assert_eq!(given, Some(Wrote::printing(text)), "{words:?}");
-    }
+    let (handed_in, answered) = (stuck::unanswered(), stuck::answered());
+    listed_so(
+        &stuck::KINDS,
+        &handed_in,
+        &answered,
+        stuck::LISTING,
+        stuck::SINCE,
+    );
 }
-
-/// Before, event, post, answer.
-type Example = (&'static [(u32, u32)], u32, u32, u32);
 
 const ANSWERS: &[Example] = &[
     // "At kinds 1 to 4": each jams and is freed, the last post too; the origin does not.
@@ -104,16 +93,7 @@ const ANSWERS: &[Example] = &[
 
 #[test]
 fn answers() {
-    for &(before, number, place, answer) in ANSWERS {
-        let (mut row, head) = after(before);
-        let line = row.clone();
-        let told = event(&mut row, head, number, place, 0);
-        assert_eq!(told.answer, answer, "{before:?} {number} {place}");
-        assert!(valid(&row, told.head));
-        if answer != 0 {
-            assert_eq!((row, told.head), (line, head));
-        }
-    }
+    answered_so(&KINDS, ANSWERS);
 }
 
 /// "Order for an event: 1, 3, 2, 5, 4, 6", and then 22 and 23.

@@ -234,8 +234,8 @@ fn a_room_too_short_is_21_last_and_the_rest_stays() {
 /// "Every event keeps a valid line valid": all lines reached within some steps.
 #[test]
 fn every_event_keeps_a_valid_line_valid() {
-    for middle in 2..=4 {
-        let (row, head) = fresh(&[0, middle, 1], 0);
+    for kinds in [[2, 1], [3, 1], [4, 1], [18, 1], [19, 17], [20, 17], [2, 17]] {
+        let (row, head) = fresh(&[0, kinds[0], kinds[1]], 0);
         let mut edge = vec![(row, head)];
         for _ in 0..7 {
             let mut next = Vec::new();

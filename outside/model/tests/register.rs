@@ -175,7 +175,7 @@ const WRONG: &[(&str, &str, u64)] = &[
     ("1,5,0,0,0", "1,5,0,0,", 6),
     ("1,5,0,0,0", "1,5,0,0", 6),
     ("1,5,0,0,0", "1,5,0,0,0,", 6),
-    // posts in order; 0 first, 2, 3 or 4 between, a 1 ends the table
+    // posts in order; 0 first, 2, 3 or 4 between, a 1 ends the table, also in short forms
     (",3,1,,", ",3,0,,", 4),
     (",3,1,,", ",3,2,,", 4),
     (",3,1,,", ",3,257,,", 4),
@@ -188,6 +188,20 @@ const WRONG: &[(&str, &str, u64)] = &[
     (",3,1,,", ",4294967299,1,,", 4),
     (",3,1,,", ",1,1,,", 5),
     (",1,2,,", ",2,2,,", 6),
+    (",0,0,,", ",16,0,,", 3),
+    (",0,0,,", ",17,0,,", 3),
+    (",0,0,,", ",18,0,,", 3),
+    (",3,1,,", ",16,1,,", 4),
+    (",3,1,,", ",21,1,,", 4),
+    (",3,1,,", ",019,1,,", 4),
+    (",3,1,,", ",19 ,1,,", 4),
+    (",3,1,,", ",35,1,,", 4),
+    (",3,1,,", ",275,1,,", 4),
+    (",3,1,,", ",17,1,,", 5),
+    (",1,2,,", ",16,2,,", 5),
+    (",1,2,,", ",21,2,,", 5),
+    (",1,2,,", ",18,2,,", 6),
+    (",1,2,,", ",20,2,,", 6),
     // positions in order from 1
     ("1,5,0,0,0", "0,5,0,0,0", 6),
     ("1,5,0,0,0", "2,5,0,0,0", 6),
@@ -266,6 +280,12 @@ fn the_table_ends_at_post_31() {
     assert_eq!(imported(table(31, 4)), Err((28, 34)));
     assert_eq!(imported(table(32, 4)), Err((28, 34)));
     assert_eq!(imported(table(33, 1)), Err((28, 34)));
+    assert!(imported(table(31, 17)).is_ok());
+    assert!(imported(table(32, 17)).is_ok());
+    for last in [0, 2, 3, 5, 15, 16, 18, 19, 20, 21, 33] {
+        assert_eq!(imported(table(32, last)), Err((28, 34)), "{last}");
+    }
+    assert_eq!(imported(table(33, 17)), Err((28, 34)));
 }
 
 #[test]
@@ -328,7 +348,7 @@ fn export_refuses_as_reading_does() {
 #[test]
 fn the_longest_text() {
     let kinds: Vec<u32> = (0..32)
-        .map(|post| [0, 4, 1][post.min(1) + post / 31])
+        .map(|post| [0, 20, 17][post.min(1) + post / 31])
         .collect();
     let full = sheet(&kinds, u32::MAX, &vec![[31, 63, 31, u32::MAX]; MOST_EVENTS]);
     let text = exported(&full);
@@ -358,12 +378,14 @@ fn first_wrong(text: &[u8]) -> Option<u64> {
             (_, false) => {
                 let kinds: &[u32] = match posts {
                     0 => &[0],
-                    31 => &[1],
-                    _ => &[1, 2, 3, 4],
+                    31 => &[1, 17],
+                    _ => &[1, 2, 3, 4, 17, 18, 19, 20],
                 };
-                ended = posts > 0 && row == format!(",1,{posts},,");
+                let says = |k: &u32| row == format!(",{k},{posts},,");
+                let right = kinds.iter().any(says);
+                ended = posts > 0 && (says(&1) || says(&17));
                 posts += 1;
-                kinds.iter().any(|k| row == format!(",{k},{},,", posts - 1))
+                right
             }
             _ => {
                 events += 1;
@@ -415,11 +437,13 @@ fn every_cut_and_every_byte_changed() {
     let quoted = HAND.replace(',', "\",\"").replace("\r\n", "\"\r\n\"");
     let quoted = format!("\"{}", quoted.strip_suffix('"').unwrap_or(&quoted));
     assert_eq!(imported(&quoted), Ok(hand_sheet()));
-    for text in [HAND.as_bytes(), quoted.as_bytes()] {
+    let short = HAND.replace(",3,1,,", ",19,1,,");
+    let short = short.replace(",1,2,,", ",17,2,,");
+    for text in [HAND.as_bytes(), quoted.as_bytes(), short.as_bytes()] {
         for at in 0..=text.len() {
             asked_twice(&text[..at]);
             asked_twice(&[&text[..at], &text[(at + 1).min(text.len())..]].concat());
-            for byte in *b"\r\n\", 01359ax+-\0\xFF" {
+            for byte in *b"\r\n\", 0123579ax+-\0\xFF" {
                 asked_twice(&[&text[..at], &[byte], &text[at..]].concat());
                 if at < text.len() {
                     asked_twice(&[&text[..at], &[byte], &text[at + 1..]].concat());

@@ -1,12 +1,14 @@
 //! exercise POSTS EVENTS
-//! Writes a lively sheet, not yet answered, to standard output: always the same for the same two numbers.
+//! Writes a lively sheet of ordinary posts, not yet answered, to standard output: always the same for the same two
+//! numbers.
 
 use std::io::{self, Write};
 use std::process::ExitCode;
 
 use compare::histories::ordinary_event;
 use compare::random::Random;
-use compare::sheets::sheet_by;
+use compare::sheets::sheet_on;
+use compare::tables::ordinary_table;
 
 fn main() -> ExitCode {
     let numbers: Vec<usize> = std::env::args()
@@ -18,7 +20,8 @@ fn main() -> ExitCode {
         return ExitCode::from(2);
     };
     let mut random = Random::of_case(0, posts as u64, events as u64);
-    let sheet = sheet_by(&mut random, posts, events, ordinary_event).bytes();
+    let kinds = ordinary_table(&mut random, posts);
+    let sheet = sheet_on(&mut random, kinds, events, ordinary_event).bytes();
     match io::stdout().write_all(&sheet) {
         Ok(()) => ExitCode::SUCCESS,
         Err(_) => ExitCode::FAILURE,

@@ -59,3 +59,50 @@ pub fn right((row, head, [number, place, stamp]): Played) -> Told {
 pub fn refused(answer: u32, head: Head) -> Told {
     Told { answer, head }
 }
+
+/// The model's event, and then a change to the post that it names and the one downstream,
+/// where this holds: by the post and the one downstream before it, and its number.
+pub fn changed(
+    (row, head, step): Played,
+    holds: impl Fn(&Post, &Post, u32) -> bool,
+    change: fn(&mut Post, &mut Post),
+) -> Told {
+    let before = row.to_vec();
+    let told = right((&mut *row, head, step));
+    let at = step[1] as usize;
+    let mut next = Post::default();
+    if told.answer == 0 && holds(&before[at], before.get(at + 1).unwrap_or(&next), step[0]) {
+        let (front, back) = row.split_at_mut(at + 1);
+        change(&mut front[at], back.first_mut().unwrap_or(&mut next));
+    }
+    told
+}
+
+/// The same event, but another answer where this gives one: by the row before it, its
+/// number and place, and the right answer. 0 is taken with no effect.
+pub fn answered(
+    (row, head, step): Played,
+    other: impl Fn(&[Post], u32, usize, u32) -> Option<u32>,
+) -> Told {
+    let mut after = row.to_vec();
+    let told = right((&mut after, head, step));
+    match other(row, step[0], step[1] as usize, told.answer) {
+        Some(0) => Told {
+            answer: 0,
+            head: Head {
+                taken: head.taken + 1,
+                last: step[2],
+            },
+        },
+        Some(answer) => refused(answer, head),
+        None => {
+            row.copy_from_slice(&after);
+            told
+        }
+    }
+}
+
+/// The first of these that holds.
+pub fn first(list: &[(bool, u32)]) -> Option<u32> {
+    list.iter().find(|(holds, _)| *holds).map(|pair| pair.1)
+}

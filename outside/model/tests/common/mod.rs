@@ -2,7 +2,11 @@
 #![allow(dead_code)]
 
 use model::number::TAKEN;
-use model::{paper, start, work, write, Entry, Head, Post, BLOCK_BYTES, EVENTS_PER_BLOCK};
+use model::program::{asked, wrote, Wrote};
+use model::{
+    event, listing, paper, start, valid, work, write, Entry, Head, Post, BLOCK_BYTES,
+    EVENTS_PER_BLOCK,
+};
 
 pub fn sheet(kinds: &[u32], stamp: u32, events: &[Entry]) -> Vec<u8> {
     let mut out = vec![0; BLOCK_BYTES * (1 + events.len().div_ceil(EVENTS_PER_BLOCK))];
@@ -25,4 +29,49 @@ pub fn fresh(kinds: &[u32], stamp: u32) -> (Vec<Post>, Head) {
     let told = start(&mut row, kinds, stamp);
     assert_eq!(told.answer, TAKEN);
     (row, told.head)
+}
+
+/// The line of this table after these events at stamp 0, each of them taken.
+pub fn after_on(kinds: &[u32], events: &[(u32, u32)]) -> (Vec<Post>, Head) {
+    let (mut row, mut head) = fresh(kinds, 0);
+    for &(number, place) in events {
+        let told = event(&mut row, head, number, place, 0);
+        assert_eq!(told.answer, 0, "{number} at {place} of {events:?}");
+        head = told.head;
+    }
+    (row, head)
+}
+
+/// Before, event, post, answer.
+pub type Example = (&'static [(u32, u32)], u32, u32, u32);
+
+/// Each example is answered so on this table; a refusal leaves all as it was.
+pub fn answered_so(kinds: &[u32], examples: &[Example]) {
+    for &(before, number, place, answer) in examples {
+        let (mut row, head) = after_on(kinds, before);
+        let line = row.clone();
+        let told = event(&mut row, head, number, place, 0);
+        assert_eq!(told.answer, answer, "{before:?} {number} {place}");
+        assert!(valid(&row, told.head));
+        if answer != 0 {
+            assert_eq!((row, told.head), (line, head));
+        }
+    }
+}
+
+/// A sheet from stamp 0 is listed so, worked to these answers, and asked since when.
+pub fn listed_so(
+    kinds: &[u32],
+    handed_in: &[Entry],
+    answered: &[Entry],
+    text: &str,
+    since: &[(&[&str], &str)],
+) {
+    let (handed_in, answered) = (sheet(kinds, 0, handed_in), sheet(kinds, 0, answered));
+    assert_eq!(listing(&handed_in), text);
+    assert_eq!(work_whole(&handed_in), answered);
+    for (words, text) in since {
+        let given = asked(words).map(|asked| wrote(asked, &answered));
+        assert_eq!(given, Some(Wrote::printing(text)), "{words:?}");
+    }
 }
