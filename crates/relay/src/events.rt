@@ -1,4 +1,4 @@
-// The twelve events on the post named and its neighbour: a list of refusals for each, and a change for each.
+// The twelve events on the post named and its neighbour: a list of refusals for each, and a change for each. A list takes the ordinary form of the post's kind.
 ghost use mathlib.Core.Path.{_≡_};
 ghost use Rattle.relay.specs.Choice.{grown};
 ghost use Rattle.relay.specs.Events.{reverseRefusal, normalRefusal, announceRefusal, releaseRefusal, garageRefusal, underWayRefusal, restoreRefusal, lacks, jamHinders, nothingToFree, ownRefusal, refusal};
