@@ -134,17 +134,18 @@ abbrev pub downstream : List ℕ
 downstream = 1 ∷ 2 ∷ 3 ∷ 4 ∷ []
 
 -- ---- histories
--- an announcement recorded at post i; a passage recorded there; a release from there under way, where no onward announcement is asked (the
--- terminus) and where one is
+-- an announcement recorded at post i; a passage recorded there
 abbrev pub recorded : ℕ → List Event
 recorded i = ev 5 (i - 1) ∷ ev 8 (i - 1) ∷ []
 
 abbrev pub passed : ℕ → List Event
 passed i = recorded i ++ (ev 3 i ∷ [])
 
+-- these events, and where post i is not the terminus an announcement sent onward from there
 abbrev pub withOnward : ℕ → List Event → List Event
 withOnward i es = pick (eqb i 4) es (es ++ (ev 5 i ∷ []))
 
+-- what a release from there asks; a release from there under way
 abbrev pub announcedOn : ℕ → List Event
 announcedOn i = withOnward i (passed i)
 
