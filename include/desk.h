@@ -49,17 +49,18 @@ enum {
 
 /*
  * The kinds of post: 0 origin, 1 terminus, 2 station that blocks at the signal pedal, 3 station that blocks at the
- * announcement, 4 intermediate post. DESK_SHORT more is the short form of a kind from 1 to 4 (17 to 20), for a post that
- * the train reaches before it is announced there; the origin has none, and 16 is no kind. All that is said of a kind
- * holds for its short form too, but for event 3. Post 0 has kind 0, the last 1 or 17, those between 2, 3, 4, 18, 19 or 20.
+ * announcement, 4 intermediate post. DESK_SHORT more is the short form of a kind from 1 to 4 (17 to 20), for a post
+ * that the train reaches before it is announced there; the origin has none, and 16 is no kind. All that is said of a
+ * kind holds for its short form too, but for event 3, and that DESK_KPG is up only where DESK_AN is. Post 0 has kind
+ * 0, the last 1 or 17, those between 2, 3, 4, 18, 19 or 20.
  */
 enum { DESK_SHORT = 16 };
 
 /*
- * The record of a post: its relays, its kind, and nine counts. Of the section downstream:
- * announcements sent a, announcements lost x (on the circuit, or to a jam of the post that they reach), releases
- * lost y, releases received v, restorations g. Of the section upstream: announcements received r, passages recorded
- * q, releases sent e, of which garage releases c.
+ * The record of a post: its relays, its kind, and nine counts. Of the section downstream: announcements sent a,
+ * announcements lost x (on the circuit, or to a jam of the post that they reach), releases lost y, releases received
+ * v, restorations g. Of the section upstream: announcements received r, passages recorded q, releases sent e, of
+ * which garage releases c.
  */
 struct desk_post {
     uint32_t word, kind;
@@ -139,9 +140,9 @@ struct desk_told desk_start(struct desk_post *row, size_t n, const uint32_t *kin
  * 0: taken; the post and at most one neighbour are altered by the rule of the event, and the head has one event more
  * and this stamp. Any other answer, 1 to 17, 22 or 23, in the paper's order (22 and 23 right after 6): every record and
  * the head are as they were.
- * Event 3, the passage pedal, records a passage (DESK_KPG rises, q grows by 1) where DESK_AN is up and DESK_KPG down; at
- * a short form of a kind it asks only that DESK_KPG be down, so that a train that strikes early counts. Else it is taken
- * with no effect.
+ * Event 3, the passage pedal, records a passage (DESK_KPG rises, q grows by 1) where DESK_AN is up and DESK_KPG down;
+ * at a short form of a kind it asks only that DESK_KPG be down, so that a train that strikes early counts. Else it is
+ * taken with no effect.
  * Event 11, the release button jams, raises DESK_JAM of its post; event 12, it is freed, drops it. At a jammed post
  * events 6, 7 and 11 are answered 22, and an announcement that arrives is taken off the circuit and counted in x: the
  * arrival is answered 0, and An and r stay. Event 12 at a post that is not jammed is answered 23.
@@ -211,9 +212,9 @@ struct desk_exported desk_export(const uint8_t *sheet, size_t n, uint8_t *out, s
  * the bytes past it stay. The text is of any length, and as desk_export writes it, but for this: any field may be
  * quoted, those of the header and empty ones too, and the last line end may be left out.
  * 28 with the number of the first record (the header is 1) that can't stand there in a right text of any length, or of
- * the first one missing. Posts stand in order from 0; post 0 has kind 0, those between 2, 3, 4, 18, 19 or 20, and a 1 or
- * a 17 ends the table, at post 31 at the latest; then positions 1, 2, 3 and on; event below 32, post below 64, stamp below 2^32,
- * answer below 32. No record can stand in which the text breaks RFC 4180: a quote inside a field that is not quoted,
+ * the first one missing. Posts stand in order from 0; post 0 has kind 0, those between 2, 3, 4, 18, 19 or 20, and a 1
+ * or a 17 ends the table, at post 31 at the latest; then positions 1, 2, 3 and on; event below 32, post below 64, stamp
+ * below 2^32, answer below 32. No record can stand in which the text breaks RFC 4180: a quote inside a field that is not quoted,
  * anything but a comma, CR LF or the end behind a closing quote, CR or LF alone, a quote never closed. A blank line is
  * a record, and can't stand; an empty text lacks record 1; one that ends before the table does lacks the next record.
  * Then 18 with record 0 for more than 3,780 events, so that the whole text is looked at first; then 21 with record 0
