@@ -214,9 +214,10 @@ struct desk_exported desk_export(const uint8_t *sheet, size_t n, uint8_t *out, s
  * 28 with the number of the first record (the header is 1) that can't stand there in a right text of any length, or of
  * the first one missing. Posts stand in order from 0; post 0 has kind 0, those between 2, 3, 4, 18, 19 or 20, and a 1
  * or a 17 ends the table, at post 31 at the latest; then positions 1, 2, 3 and on; event below 32, post below 64, stamp
- * below 2^32, answer below 32. No record can stand in which the text breaks RFC 4180: a quote inside a field that is not quoted,
- * anything but a comma, CR LF or the end behind a closing quote, CR or LF alone, a quote never closed. A blank line is
- * a record, and can't stand; an empty text lacks record 1; one that ends before the table does lacks the next record.
+ * below 2^32, answer below 32. No record can stand in which the text breaks RFC 4180: a quote inside a field that is
+ * not quoted, anything but a comma, CR LF or the end behind a closing quote, CR or LF alone, a quote never closed. A
+ * blank line is a record, and can't stand; an empty text lacks record 1; one that ends before the table does lacks the
+ * next record.
  * Then 18 with record 0 for more than 3,780 events, so that the whole text is looked at first; then 21 with record 0
  * where out is shorter than the sheet, which a room of DESK_SHEET never is. A refusal leaves out as it was.
  */
