@@ -9,7 +9,7 @@ use borrow.Author.Tests.{eqb-true}
 use lib.Dec.{eqb}
 use lib.ListN.{getD}
 use Rattle.relay.specs.Choice.{one, grown}
-use Rattle.relay.specs.Events.{pair}
+use Rattle.relay.specs.Events.{pair, mayRecord}
 use Rattle.relay.specs.Examples.{Event, ev-at}
 use Rattle.relay.specs.Kinds.{terminus, isShort, ordinary}
 use Rattle.relay.specs.Posts.{wordTo, more-a, more-x, more-y, more-v, more-g, more-r, more-q, freshWord, freshPost}
@@ -156,7 +156,7 @@ module _ {ks : List ℕ} {N T i j t : ℕ} {h : List Entry} {p o : Post} (room :
       (λ s u f z. simp (e .0, e .1) (uncounted ks n i t h s u p q z))
 
   -- 3, a passage recorded
-  passes : (isShort (p .kind) || up An (p .word)) ≡ true → up KPg (p .word) ≡ false → Moves ks 3 i j t h p o (pair (more-q (wordTo (raise KPg (p .word)) p)) o)
+  passes : mayRecord (p .kind) (p .word) ≡ true → up KPg (p .word) ≡ false → Moves ks 3 i j t h p o (pair (more-q (wordTo (raise KPg (p .word)) p)) o)
   unfolding counting
   passes b c =
       single refl (λ s d f k z. simp (relays, f .1) (omega arith))
@@ -165,13 +165,13 @@ module _ {ks : List ℕ} {N T i j t : ℕ} {h : List Entry} {p o : Post} (room :
       simp (relays, f .1, x .0, x .1, x .2, b, c) (omega (arith, ones, r .counts)))
 
   -- 3 with no effect
-  passes-idle : ((isShort (p .kind) || up An (p .word)) ≡ true → up KPg (p .word) ≡ true) → Moves ks 3 i j t h p o (pair p o)
+  passes-idle : (mayRecord (p .kind) (p .word) ≡ true → up KPg (p .word) ≡ true) → Moves ks 3 i j t h p o (pair p o)
   unfolding counting
   passes-idle b =
       single refl (λ s d f k z. simp (f .1) (omega arith))
       (λ s u f z.
       let x = recorded ks s h u p z in
-      split (isShort (p .kind) || up An (p .word))
+      split (mayRecord (p .kind) (p .word))
       (λ e. simp (f .1, x .0, x .1, x .2, e, b e) (omega (arith, ones)))
       (λ e. simp (f .1, x .0, x .1, x .2, e) (omega (arith, ones))))
 

@@ -9,8 +9,8 @@ use native.Mathlib.Omega.{arith}
 use borrow.Author.Tests.{eqb-true}
 use lib.Dec.{eqb}
 use Rattle.relay.specs.Choice.{grown}
-use Rattle.relay.specs.Events.{pair, reversed, normal, passed, struck, announced, released, garaged, releaseUnderWay, arrived, lost, restored, jammed, freed, lacks, jamHinders, nothingToFree, ownRefusal, refusal, changed}
-use Rattle.relay.specs.Kinds.{origin, terminus, isShort, hasSignalPedal, hasPassagePedal, hasGarageRelease, blocksAtPedal}
+use Rattle.relay.specs.Events.{pair, reversed, normal, mayRecord, passed, struck, announced, released, garaged, releaseUnderWay, arrived, lost, restored, jammed, freed, lacks, jamHinders, nothingToFree, ownRefusal, refusal, changed}
+use Rattle.relay.specs.Kinds.{origin, terminus, hasSignalPedal, hasPassagePedal, hasGarageRelease, blocksAtPedal}
 use Rattle.relay.specs.Line.{lastEvent, namesSection, neighbour}
 use Rattle.relay.specs.Posts.{at, post, form, wordTo, more-a, more-x, more-y, more-v, more-g, more-r, more-q}
 use Rattle.relay.specs.Relays.{An, KPg, L, RL, lever, signal, W314, W241, jam, up, raise, lower}
@@ -39,11 +39,10 @@ pub data Taken (i j : ℕ) (p o : Post) : ℕ → Pair → Type 0 where
   -- 2. Lever to normal: 'signal closes'
   normalise : up lever (p .word) ≡ true → Taken i j p o 2 (pair (wordTo (lower signal (lower lever (p .word))) p) o)
   -- 3. Passage pedal: 'if An is up and KPg down, KPg rises and q grows by 1'; at a short post 'event 3 asks only that KPg be down'
-  pass : (form p ≡ origin → ⊥) → (isShort (p .kind) || up An (p .word)) ≡ true → up KPg (p .word) ≡ false
+  pass : (form p ≡ origin → ⊥) → mayRecord (p .kind) (p .word) ≡ true → up KPg (p .word) ≡ false
       → Taken i j p o 3 (pair (more-q (wordTo (raise KPg (p .word)) p)) o)
   -- 'Otherwise taken with no effect.'
-  pass-idle : (form p ≡ origin → ⊥) → ((isShort (p .kind) || up An (p .word)) ≡ true → up KPg (p .word) ≡ true)
-      → Taken i j p o 3 (pair p o)
+  pass-idle : (form p ≡ origin → ⊥) → (mayRecord (p .kind) (p .word) ≡ true → up KPg (p .word) ≡ true) → Taken i j p o 3 (pair p o)
   -- 4. Signal pedal: 'if the lever is reversed, the signal closes, and at kinds 0 and 2 L drops'
   strike-block : blocksAtPedal (form p) ≡ true → up lever (p .word) ≡ true
       → Taken i j p o 4 (pair (wordTo (lower L (lower signal (p .word))) p) o)
@@ -125,7 +124,7 @@ module _ (i : ℕ) (p o : Post) (first : i ≡ 0 → form p ≡ origin) where
   unfolding changed lacks passed hasPassagePedal
   is-pass e =
       let f = simp facts at (e .0) in
-      by (λ q. Case 3 (pair q o)) ((isShort (p .kind) || up An (p .word)) && not (up KPg (p .word)))
+      by (λ q. Case 3 (pair q o)) (mayRecord (p .kind) (p .word) && not (up KPg (p .word)))
       (λ b. let g = simp facts at b in pass f (g .0) (g .1))
       (λ b. pass-idle f (simp facts at b))
 
@@ -237,7 +236,7 @@ case-taken {p} {o} (reverse a b) = (own-iff p o 1 .1 (refl, reverse-iff (form p)
 case-taken {p} {o} (normalise a) = (own-iff p o 2 .1 (refl, normal-iff (p .word) .1 a, refl, refl), refl)
 case-taken {p} {o} (pass a b c) = (own-iff p o 3 .1 (simp facts a, refl, refl, refl), rw (b, c))
 case-taken {p} {o} (pass-idle a b) =
-    let z : ((isShort (p .kind) || up An (p .word)) && not (up KPg (p .word))) ≡ false = simp facts b in
+    let z : (mayRecord (p .kind) (p .word) && not (up KPg (p .word))) ≡ false = simp facts b in
     (own-iff p o 3 .1 (simp facts a, refl, refl, refl), rw z)
 case-taken {p} {o} (strike-block a b) = (own-iff p o 4 .1 (pedal-there (form p) a, refl, refl, refl), rw (b, a))
 case-taken {p} {o} (strike-close a b) = (own-iff p o 4 .1 (rw a, refl, refl, refl), rw (b, a))

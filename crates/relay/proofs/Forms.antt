@@ -23,7 +23,7 @@ pub origin-alone : (k : ℕ) → ordinary k ≡ origin → k ≡ origin
 unfolding ordinary isShort
 origin-alone k e = split (isShort k) (λ s. let b = simp facts at s in omega (arith, b, rw s at e)) (λ s. omega (arith, rw s at e))
 
--- a test of the five ordinary kinds, and of what is 16 greater
+-- a test of the five ordinary kinds, and of what is 16 greater: the four short forms, and 16, which is no kind
 unfoldable pub everyKind : (ℕ → Bool) → Bool
 everyKind f = every 5 f && every 5 (λ k. f (k + short))
 

@@ -20,7 +20,7 @@ use Rattle.relay.specs.Valid.{valid}
 use Rattle.relay.specs.declared.Head.{Head}
 use Rattle.relay.specs.declared.Post.{Post}
 use Rattle.relay.proofs.Facts.{valid-iff}
-use Rattle.relay.proofs.Forms.{small-form}
+use Rattle.relay.proofs.Forms.{small-form, origin-alone}
 use Rattle.relay.proofs.KeptPosts.{kind-small}
 use Rattle.relay.proofs.Truth.{facts, and-facts, not-facts, not-false-facts, eqb-facts, split, equal-or-not, least-or-below, from, every, every-one}
 
@@ -105,22 +105,28 @@ given-ahead j k (r ∷ rs) a e =
     (λ b. rw b (given-ahead j k rs (rw b at (f .1)) (g .1)))
 
 -- ---- the two forms of a kind
--- both readings of them, and of where they stand in a table, agree
-abbrev Alike : ℕ → Bool
-Alike k =
+-- both readings of them, and of which may stand last and between, agree
+abbrev readAlike : ℕ → Bool
+readAlike k =
     eqb (ordinary k) (refusedAs k)
-    && (same (eqb (ordinary k) 0) (eqb k 0)
-    && (same (eqb (ordinary k) 1) (lastRight k) && same (between (ordinary k)) (otherRight k)))
+    && (same (eqb (ordinary k) 1) (lastRight k) && same (between (ordinary k)) (otherRight k))
 
 -- on the numbers up to 20, which is computed; past them there is no kind
-pub forms : (k : ℕ) → (ordinary k ≡ refusedAs k) × ((eqb (ordinary k) 0 ≡ eqb k 0) × ((eqb (ordinary k) 1 ≡ lastRight k) × (between (ordinary k) ≡ otherRight k)))
+pub forms : (k : ℕ) → (ordinary k ≡ refusedAs k) × ((eqb (ordinary k) 1 ≡ lastRight k) × (between (ordinary k) ≡ otherRight k))
 unfolding ordinary isShort between refusedAs lastRight otherRight every
 forms k =
     least-or-below 21 k
     (λ h.
     let none : (c : ℕ) → ltb c 21 ≡ true → eqb k c ≡ false = λ c e. ne-eqb k c (λ z. omega (arith, ltb-true c 21 e)) in
-    rw (le-leb 17 k (omega arith), lt-leb k 20 (omega arith)) (simp none (refl, (refl, (refl, refl)))))
-    (λ h. simp facts at (every-one 21 Alike refl k h))
+    rw (le-leb 17 k (omega arith), lt-leb k 20 (omega arith)) (simp none (refl, (refl, refl))))
+    (λ h. simp facts at (every-one 21 readAlike refl k h))
+
+-- only 0 may stand first
+first-form : (k : ℕ) → eqb (ordinary k) 0 ≡ eqb k 0
+first-form k =
+    equal-or-not k 0
+    (λ e. rw e (eq-eqb (ordinary 0) 0 (small-form 0 (omega arith))))
+    (λ e. rw (ne-eqb k 0 e) (ne-eqb (ordinary k) 0 (λ z. e (origin-alone k z))))
 
 -- ---- 6 and the event's own list
 -- what holds of each kind 0 to 4
@@ -241,9 +247,9 @@ others : (n i : ℕ) (ks : List ℕ) → 1 ≤ i → 1 ≤ length ks → i + len
 unfolding kindsFit othersRight kindFits
 others n i [] a b e = absurd (omega arith)
 others n i (k ∷ []) a b e =
-    rw (ne-eqb i 0 (λ z. omega arith), eq-eqb (i + 1) n (omega arith), forms k .1 .1 .0) (and-true (lastRight k))
+    rw (ne-eqb i 0 (λ z. omega arith), eq-eqb (i + 1) n (omega arith), forms k .1 .0) (and-true (lastRight k))
 others n i (k ∷ j ∷ ks) a b e =
-    rw (ne-eqb i 0 (λ z. omega arith), ne-eqb (i + 1) n (λ z. omega arith), forms k .1 .1 .1)
+    rw (ne-eqb i 0 (λ z. omega arith), ne-eqb (i + 1) n (λ z. omega arith), forms k .1 .1)
     (ap (λ (t : Bool). otherRight k && t) (others n (i + 1) (j ∷ ks) (omega arith) (omega arith) (omega arith)))
 
 -- not both
@@ -260,7 +266,7 @@ table-wrong [] = refl
 table-wrong (k ∷ []) = refl
 table-wrong (k ∷ j ∷ ks) =
     let n = length (k ∷ j ∷ ks) in
-    rw (← others n 1 (j ∷ ks) (omega arith) (omega arith) (omega arith), forms k .1 .0) (not-both (leb 2 n && leb n 32) (eqb k 0 && kindsFit n 1 (j ∷ ks)))
+    rw (← others n 1 (j ∷ ks) (omega arith) (omega arith) (omega arith), first-form k) (not-both (leb 2 n && leb n 32) (eqb k 0 && kindsFit n 1 (j ∷ ks)))
 
 -- the answer by two tests that must both pass
 either-fails : (a b : Bool) (x y : After) → pick (a && b) x y .told .answer ≡ pick (not a || not b) (y .told .answer) (x .told .answer)

@@ -2,10 +2,11 @@
 -- Each holds case by case: the word by proofs/KeptWords.antt, the counts because one grows by 1 as the events taken do, and the equations of a section because what grows on one side grows on the other.
 use Prim.Native.Nat.{ℕ, _+_, _≤_, _<_}
 use mathlib.Core.Path.{_≡_, refl}
-use mathlib.Core.Bool.{Bool, true, false, _||_}
+use mathlib.Core.Bool.{Bool, true, false}
 use native.Mathlib.Omega.{arith}
 use Rattle.relay.specs.Choice.{one, grown}
-use Rattle.relay.specs.Kinds.{origin, terminus, intermediate, isShort}
+use Rattle.relay.specs.Events.{mayRecord}
+use Rattle.relay.specs.Kinds.{origin, terminus, intermediate}
 use Rattle.relay.specs.Posts.{post, form, wordTo, more-a, more-x, more-y, more-v, more-g, more-r, more-q}
 use Rattle.relay.specs.Relays.{An, KPg, L, RL, lever, W314, W241, up, raise, lower}
 use Rattle.relay.specs.Valid.{mostEvents}
@@ -120,7 +121,7 @@ module _ {n i t : ℕ} {p : Post} (r : PostOk n i t p) where
   idle = record { post = later (omega arith) r; above = λ x s. s; below = λ y s. s }
 
   -- 3. a passage is recorded
-  passes : t < mostEvents → (form p ≡ origin → ⊥) → (isShort (p .kind) || up An (p .word)) ≡ true → up KPg (p .word) ≡ false
+  passes : t < mostEvents → (form p ≡ origin → ⊥) → mayRecord (p .kind) (p .word) ≡ true → up KPg (p .word) ≡ false
       → One n i t p (more-q (wordTo (raise KPg (p .word)) p))
   passes room k a b =
       record {

@@ -2,10 +2,11 @@
 -- Each holds because the test of every word at every kind passes: it is computed whole, so that it moves with the rules.
 use Prim.Native.Nat.{ℕ, _^_, _<_}
 use mathlib.Core.Path.{_≡_, refl}
-use mathlib.Core.Bool.{Bool, true, not, _&&_, _||_}
+use mathlib.Core.Bool.{Bool, true, not, _&&_}
 use lib.Dec.{eqb}
 use Rattle.relay.specs.Choice.{requires}
-use Rattle.relay.specs.Kinds.{origin, terminus, isShort, ordinary, blocksAtPedal}
+use Rattle.relay.specs.Events.{mayRecord}
+use Rattle.relay.specs.Kinds.{origin, terminus, ordinary, blocksAtPedal}
 use Rattle.relay.specs.Relays.{An, KPg, L, RL, lever, signal, W314, W241, jam, width, up, down, raise, lower}
 use Rattle.relay.specs.Valid.{wordOk}
 use Rattle.relay.proofs.Facts.{WordOk, word-iff}
@@ -37,7 +38,7 @@ unfolding rules everyKind every
 word-normal = record { passes = refl }
 
 -- 3. KPg rises, with An up but at a short post
-pub word-pass : Keeps (λ k w. isShort k || up An w) (λ w. raise KPg w)
+pub word-pass : Keeps mayRecord (λ w. raise KPg w)
 unfolding rules everyKind every
 word-pass = record { passes = refl }
 

@@ -32,11 +32,13 @@ normalRefusal w = pick (down lever w) leverThere 0
 unfoldable pub normal : Post → Post
 normal p = wordTo (lower signal (lower lever (p .word))) p
 
--- 3. Passage pedal: 'if An is up and KPg down, KPg rises and q grows by 1. Otherwise taken with no effect.'
--- 02, item 5, at a short post: 'event 3 asks only that KPg be down'
+-- 3. Passage pedal: 'if An is up', at a kind k with the word w; 02, item 5, at a short post: 'event 3 asks only that KPg be down'
+abbrev pub mayRecord : ℕ → ℕ → Bool
+mayRecord k w = isShort k || up An w
+
+-- 'if An is up and KPg down, KPg rises and q grows by 1. Otherwise taken with no effect.'
 unfoldable pub passed : Post → Post
-passed p =
-    pick ((isShort (p .kind) || up An (p .word)) && down KPg (p .word)) (more-q (wordTo (raise KPg (p .word)) p)) p
+passed p = pick (mayRecord (p .kind) (p .word) && down KPg (p .word)) (more-q (wordTo (raise KPg (p .word)) p)) p
 
 -- 4. Signal pedal: 'if the lever is reversed, the signal closes, and at kinds 0 and 2 L drops. With a normal lever, taken with no effect.'
 unfoldable pub struck : Post → Post
