@@ -1,7 +1,7 @@
 //! The working program's fixed cases, always run: sheets to list.
 
 use model::program::{asked, wrote, Wrote};
-use model::{paper, short, stuck, Entry, MOST_EVENTS, UNANSWERED};
+use model::{paper, short, stuck, Entry, Listed, MOST_EVENTS, UNANSWERED};
 
 use crate::histories::{near_stamp, stuck_pupils_event, Play};
 use crate::random::Random;
@@ -26,17 +26,22 @@ pub fn short_sheet(events: &[(u32, u32)]) -> Sheet {
 }
 
 pub fn papers_sheet() -> Sheet {
-    from_0(&paper::KINDS, paper::unanswered())
+    told_as(&paper::EXAMPLE)
 }
 
 /// The sheet in which 11 and 12 are taken and 22 and 23 given.
 pub fn stuck_sheet() -> Sheet {
-    from_0(&stuck::KINDS, stuck::unanswered())
+    told_as(&stuck::EXAMPLE)
 }
 
 /// The sheet in which trains come before their announcements, at short posts and another.
 pub fn early_sheet() -> Sheet {
-    from_0(&short::KINDS, short::unanswered())
+    told_as(&short::EXAMPLE)
+}
+
+/// The sheet of an example, as it is handed in.
+fn told_as(example: &Listed) -> Sheet {
+    from_0(example.kinds, example.unanswered())
 }
 
 /// A sheet that starts at stamp 0.
@@ -132,9 +137,9 @@ pub fn fixed_cases() -> Vec<Fixed> {
         listed(
             "a button sticks and is freed",
             stuck_sheet().bytes(),
-            stuck::LISTING,
+            stuck::EXAMPLE.text,
         ),
-        listed("early trains", early_sheet().bytes(), short::LISTING),
+        listed("early trains", early_sheet().bytes(), short::EXAMPLE.text),
         listed("a header alone", header, "S 0 0 0 0 0 0 0 0 0 0\n"),
         refused("empty input", vec![], 18, 0),
         refused("511 bytes", vec![0; 511], 18, 0),

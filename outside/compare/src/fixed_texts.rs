@@ -47,7 +47,7 @@ pub fn register_cases() -> Vec<Fixed> {
 /// The paper's register with a short terminus, both ways.
 fn short_terminus() -> [Fixed; 2] {
     let text = paper::REGISTER.replace(",1,1,,", ",17,1,,").into_bytes();
-    let sheet = from_0(&[0, 17], paper::answered()).bytes();
+    let sheet = from_0(&[0, 17], paper::EXAMPLE.answered()).bytes();
     let case = |name, words, input: &[u8], printed: &[u8]| Fixed {
         name,
         words,

@@ -32,8 +32,8 @@ pub fn work_cases() -> Vec<Fixed> {
         case(name, sheet.bytes(), printed)
     };
     let worked = papers_sheet().worked().bytes();
-    let stuck = from_0(&stuck::KINDS, stuck::answered()).bytes();
-    let early = from_0(&short::KINDS, short::answered()).bytes();
+    let stuck = from_0(&stuck::KINDS, stuck::EXAMPLE.answered()).bytes();
+    let early = from_0(&short::KINDS, short::EXAMPLE.answered()).bytes();
     let mut damaged = papers_sheet().bytes();
     put(&mut damaged, 1, 126, 1);
     let (long, renewed) = (vec![1; 3_000_000], renewed(damaged.clone(), 1));
@@ -130,9 +130,9 @@ pub fn why_cases() -> Vec<Fixed> {
     ]);
     let (stuck, early) = (stuck_sheet().worked(), early_sheet().worked());
     let name = "a button sticks and is freed";
-    cases.extend(questions_of(name, &stuck, stuck::SINCE));
+    cases.extend(questions_of(name, &stuck, stuck::EXAMPLE.since));
     let name = "early trains";
-    cases.extend(questions_of(name, &early, short::SINCE));
+    cases.extend(questions_of(name, &early, short::EXAMPLE.since));
     cases
 }
 

@@ -2,10 +2,10 @@
 use desk::relay::{AN, JAM, KPG, RL, W241, W314};
 use desk::{
     check, event, export, import, read, start, test, valid, why, work, write, Entry, Exported,
-    Head, Imported, Post, Since, Verdict, SHEET, TEXT,
+    Head, Imported, Post, Since, Verdict, Worked, SHEET, TEXT,
 };
-use model::paper::{answered, unanswered, KINDS, REGISTER};
-use model::{short, stuck, MOST_TEXT};
+use model::paper::{EXAMPLE, KINDS, REGISTER};
+use model::{short, stuck, Listed, MOST_TEXT};
 
 fn is_last(row: &[Post]) -> bool {
     let (up, down) = (row[0], row[1]);
@@ -17,7 +17,7 @@ fn the_listing_event_by_event() {
     let mut row = [Post::default(); 2];
     let mut told = start(&mut row, &KINDS, 0);
     assert_eq!(told.answer, 0);
-    for [number, place, answer, stamp] in answered() {
+    for [number, place, answer, stamp] in EXAMPLE.answered() {
         told = event(&mut row, told.head, number, place, stamp);
         assert_eq!(told.answer, answer);
     }
@@ -28,7 +28,7 @@ fn the_listing_event_by_event() {
 #[test]
 fn the_listing_as_a_sheet() {
     let (mut sheet, mut out) = ([0; 1024], [7; 1025]);
-    assert_eq!(write(&KINDS, 0, &unanswered(), &mut sheet), 0);
+    assert_eq!(write(&KINDS, 0, &EXAMPLE.unanswered(), &mut sheet), 0);
     assert_eq!(
         test(&sheet),
         Verdict {
@@ -47,7 +47,7 @@ fn the_listing_as_a_sheet() {
         (0, 2, 0, 15)
     );
     assert_eq!(kinds, [0, 1, 9]);
-    assert_eq!(events[..15], answered());
+    assert_eq!(events[..15], EXAMPLE.answered());
     assert_eq!(events[15], [9; 4]);
 }
 
@@ -64,7 +64,7 @@ fn played<const N: usize>(kinds: &[u32; N], events: &[Entry]) -> ([Post; N], Hea
 
 #[test]
 fn a_jam_event_by_event() {
-    let (mut row, head) = played(&stuck::KINDS, &stuck::answered());
+    let (mut row, head) = played(&stuck::KINDS, &stuck::EXAMPLE.answered());
     assert_eq!((row[0].x, row[1].r), (2, 1));
     assert_eq!(row[0].word & (RL | W314 | W241), 0);
     assert_eq!(row[1].word & (AN | JAM), JAM);
@@ -75,7 +75,7 @@ fn a_jam_event_by_event() {
 
 #[test]
 fn short_posts_event_by_event() {
-    let (mut row, head) = played(&short::KINDS, &short::answered());
+    let (mut row, head) = played(&short::KINDS, &short::EXAMPLE.answered());
     assert_eq!(row.map(|post| post.q), [0, 2, 1, 1]);
     assert_eq!(row.map(|post| post.e), [0, 2, 1, 1]);
     assert_eq!(row[1].c, 1);
@@ -92,16 +92,25 @@ fn short_posts_event_by_event() {
     assert!(!valid(&row, head));
 }
 
-#[test]
-fn a_jam_as_a_sheet() {
+/// The sheet of an example, worked to its answers, and what working returned.
+fn worked_so(example: &Listed) -> ([u8; 1024], Worked) {
     let (mut sheet, mut answered, mut out) = ([0; 1024], [0; 1024], [0; 1024]);
-    assert_eq!(write(&stuck::KINDS, 0, &stuck::unanswered(), &mut sheet), 0);
     assert_eq!(
-        write(&stuck::KINDS, 0, &stuck::answered(), &mut answered),
+        write(example.kinds, 0, &example.unanswered(), &mut sheet),
+        0
+    );
+    assert_eq!(
+        write(example.kinds, 0, &example.answered(), &mut answered),
         0
     );
     let worked = work(&sheet, &mut out);
     assert_eq!((worked.number, out), (0, answered));
+    (out, worked)
+}
+
+#[test]
+fn a_jam_as_a_sheet() {
+    let (out, worked) = worked_so(&stuck::EXAMPLE);
     assert_eq!(worked.row.posts()[1].word & JAM, JAM);
     assert_eq!(why(&out, 21), since(0, 0, 20));
     assert_eq!(why(&out, 7), since(29, 0, 0));
@@ -109,14 +118,7 @@ fn a_jam_as_a_sheet() {
 
 #[test]
 fn short_posts_as_a_sheet() {
-    let (mut sheet, mut answered, mut out) = ([0; 1024], [0; 1024], [0; 1024]);
-    assert_eq!(write(&short::KINDS, 0, &short::unanswered(), &mut sheet), 0);
-    assert_eq!(
-        write(&short::KINDS, 0, &short::answered(), &mut answered),
-        0
-    );
-    let worked = work(&sheet, &mut out);
-    assert_eq!((worked.number, out), (0, answered));
+    let (mut out, _) = worked_so(&short::EXAMPLE);
     assert_eq!(why(&out, 14), since(0, 0, 12));
     assert_eq!(why(&out, 3), since(29, 0, 0));
     let (mut text, mut back) = (vec![7; TEXT], [0; 1024]);
@@ -167,7 +169,7 @@ fn since(number: u32, block: u32, position: u32) -> Since {
 #[test]
 fn since_when_the_lever_is_locked() {
     let mut sheet = [0; 1024];
-    assert_eq!(write(&KINDS, 0, &answered(), &mut sheet), 0);
+    assert_eq!(write(&KINDS, 0, &EXAMPLE.answered(), &mut sheet), 0);
     assert_eq!(why(&sheet, 5), since(0, 0, 2));
     assert_eq!(why(&sheet, 13), since(0, 0, 2));
     assert_eq!(why(&sheet, 9), since(29, 0, 0));
@@ -178,7 +180,7 @@ fn since_when_the_lever_is_locked() {
 #[test]
 fn a_bad_block_is_named() {
     let mut sheet = [0; 1024];
-    write(&KINDS, 0, &unanswered(), &mut sheet);
+    write(&KINDS, 0, &EXAMPLE.unanswered(), &mut sheet);
     sheet[600] ^= 1;
     assert_eq!(
         test(&sheet),
@@ -192,7 +194,7 @@ fn a_bad_block_is_named() {
 #[test]
 fn a_block_by_itself() {
     let mut sheet = [0; 1025];
-    write(&KINDS, 0, &unanswered(), &mut sheet);
+    write(&KINDS, 0, &EXAMPLE.unanswered(), &mut sheet);
     assert!(check(&sheet[..512], 0) && check(&sheet[512..1024], 1));
     assert!(!check(&sheet[..512], 1) && !check(&sheet[512..1024], 0));
     for length in [0, 1, 508, 511, 513, 1024] {
@@ -228,7 +230,7 @@ fn imported(number: u32, record: u64, bytes: usize) -> Imported {
 #[test]
 fn a_register_there_and_back() {
     let (mut sheet, mut out) = ([0; 1024], [7; 1025]);
-    assert_eq!(write(&KINDS, 0, &answered(), &mut sheet), 0);
+    assert_eq!(write(&KINDS, 0, &EXAMPLE.answered(), &mut sheet), 0);
     let mut text = vec![7; TEXT];
     let bytes = REGISTER.len();
     assert_eq!(export(&sheet, &mut text), exported(0, 0, bytes));
@@ -245,7 +247,7 @@ fn a_register_there_and_back() {
 #[test]
 fn a_register_refused() {
     let mut sheet = [0; 1024];
-    assert_eq!(write(&KINDS, 0, &answered(), &mut sheet), 0);
+    assert_eq!(write(&KINDS, 0, &EXAMPLE.answered(), &mut sheet), 0);
     let mut out = vec![7; REGISTER.len() - 1];
     assert_eq!(export(&sheet, &mut out), exported(21, 0, 0));
     sheet[600] ^= 1;

@@ -8,6 +8,7 @@ mod comma;
 mod decimal;
 mod events;
 mod line;
+mod listed;
 mod listing;
 pub mod paper;
 pub mod program;
@@ -20,6 +21,7 @@ mod working;
 
 pub use events::{event, event_on_valid};
 pub use line::{kind, kinds_right, relay, start, valid, Head, Post, Told, COUNT_LIMIT};
+pub use listed::Listed;
 pub use listing::listing;
 pub use register::{export, import, Exported, Imported, MOST_TEXT};
 pub use sheet::{

@@ -1,9 +1,15 @@
 //! 01, The program and one listing: the paper's own example. Table 0, 1; start stamp
 //! 0; event k stamped 1000k.
 
-use crate::sheet::{Entry, UNANSWERED};
+use crate::listed::Listed;
 
 pub const KINDS: [u32; 2] = [0, 1];
+
+pub const EXAMPLE: Listed = Listed {
+    kinds: &KINDS,
+    text: LISTING,
+    since: &[],
+};
 
 /// The text as the paper has it.
 pub const LISTING: &str = "\
@@ -47,31 +53,3 @@ position,event,post,stamp,answer\r
 14,10,0,14000,0\r
 15,1,0,15000,0\r
 ";
-
-/// The events with the answers that the listing gives them.
-pub fn answered() -> Vec<Entry> {
-    events_of(LISTING)
-}
-
-/// The events as they are handed in.
-pub fn unanswered() -> Vec<Entry> {
-    handed_in(answered())
-}
-
-/// The events of a listing, event k stamped 1000k.
-pub(crate) fn events_of(listing: &str) -> Vec<Entry> {
-    let event_line = |line: &str| {
-        let numbers: Vec<u32> = line.split(' ').filter_map(|w| w.parse().ok()).collect();
-        match numbers[..] {
-            [k, number, post, answer] => Some([number, post, answer, 1000 * k]),
-            _ => None,
-        }
-    };
-    listing.lines().filter_map(event_line).collect()
-}
-
-/// The same events, not yet answered.
-pub(crate) fn handed_in(answered: Vec<Entry>) -> Vec<Entry> {
-    let unanswered = |[number, post, _, stamp]: Entry| [number, post, UNANSWERED, stamp];
-    answered.into_iter().map(unanswered).collect()
-}

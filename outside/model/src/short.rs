@@ -13,12 +13,17 @@
 //! It is lost; post 2 releases (38 to 41). Post 1 has its passage still, and with the next
 //! announcement a garage release (42 to 45).
 
-use crate::paper::{events_of, handed_in};
-use crate::sheet::Entry;
+use crate::listed::Listed;
 
 pub const KINDS: [u32; 4] = [0, 18, 3, 17];
 
-pub const LISTING: &str = "\
+pub const EXAMPLE: Listed = Listed {
+    kinds: &KINDS,
+    text: LISTING,
+    since: SINCE,
+};
+
+const LISTING: &str = "\
 1 3 1 0
 2 3 1 0
 3 6 1 11
@@ -70,22 +75,11 @@ S 1 1 1 0 1 1 0 1 0 0
 S 2 2 1 1 1 1 1 0 1 1
 ";
 
-/// Questions of since when, by the program's words, and what it prints of the worked
-/// sheet: 13, 8 and 9 at short posts and at the one beside them; 11, which is not asked about.
-pub const SINCE: &[(&[&str], &str)] = &[
+/// Since when: 13, 8 and 9 at short posts and at the one beside them; 11, which is not asked about.
+const SINCE: &[(&[&str], &str)] = &[
     (&["why", "10"], "0\n"),
     (&["why", "14"], "12 4 1 0\n"),
     (&["why", "38"], "32 5 2 0\n"),
     (&["why", "3"], "refused 29 0\n"),
     (&["why", "42"], "refused 29 0\n"),
 ];
-
-/// The events with the answers that the listing gives them.
-pub fn answered() -> Vec<Entry> {
-    events_of(LISTING)
-}
-
-/// The events as they are handed in.
-pub fn unanswered() -> Vec<Entry> {
-    handed_in(answered())
-}

@@ -8,12 +8,17 @@
 //! (15 to 18). The release asks the onward block, is sent, and arrives although post 1
 //! is jammed again (19 to 24). An announcement is lost to that jam (25 to 27).
 
-use crate::paper::{events_of, handed_in};
-use crate::sheet::Entry;
+use crate::listed::Listed;
 
 pub const KINDS: [u32; 3] = [0, 3, 1];
 
-pub const LISTING: &str = "\
+pub const EXAMPLE: Listed = Listed {
+    kinds: &KINDS,
+    text: LISTING,
+    since: SINCE,
+};
+
+const LISTING: &str = "\
 1 11 1 0
 2 11 1 22
 3 11 0 6
@@ -46,22 +51,11 @@ S 0 3 1 2 1 1 0 1 1 1
 S 1 1 0 0 0 0 0 0 0 1
 ";
 
-/// Questions of since when, by the program's words, and what it prints of the worked
-/// sheet: 8, 9 and 13 among jams; 22 and 23, which are not asked about.
-pub const SINCE: &[(&[&str], &str)] = &[
+/// Since when: 8, 9 and 13 among jams; 22 and 23, which are not asked about.
+const SINCE: &[(&[&str], &str)] = &[
     (&["why", "19"], "0\n"),
     (&["why", "21"], "20 5 1 0\n"),
     (&["why", "26"], "25 5 0 0\n"),
     (&["why", "7"], "refused 29 0\n"),
     (&["why", "10"], "refused 29 0\n"),
 ];
-
-/// The events with the answers that the listing gives them.
-pub fn answered() -> Vec<Entry> {
-    events_of(LISTING)
-}
-
-/// The events as they are handed in.
-pub fn unanswered() -> Vec<Entry> {
-    handed_in(answered())
-}

@@ -15,14 +15,7 @@ fn after(events: &[(u32, u32)]) -> (Vec<Post>, Head) {
 
 #[test]
 fn the_listing_byte_for_byte() {
-    let (handed_in, answered) = (stuck::unanswered(), stuck::answered());
-    listed_so(
-        &stuck::KINDS,
-        &handed_in,
-        &answered,
-        stuck::LISTING,
-        stuck::SINCE,
-    );
+    listed_so(&stuck::EXAMPLE);
 }
 
 const ANSWERS: &[Example] = &[

@@ -21,14 +21,7 @@ fn posts() -> impl Iterator<Item = u32> {
 
 #[test]
 fn the_listing_byte_for_byte() {
-    let (handed_in, answered) = (short::unanswered(), short::answered());
-    listed_so(
-        &short::KINDS,
-        &handed_in,
-        &answered,
-        short::LISTING,
-        short::SINCE,
-    );
+    listed_so(&short::EXAMPLE);
 }
 
 #[test]

@@ -104,10 +104,10 @@ fn the_papers_fifteen_events() {
 
 #[test]
 fn every_answer_is_compared() {
-    let right = paper::answered();
+    let right = paper::EXAMPLE.answered();
     let asked = |events: &[Entry]| why(&sheet(&paper::KINDS, 0, events), 5).number;
     assert_eq!(asked(&right), 0);
-    assert_eq!(asked(&paper::unanswered()), 29);
+    assert_eq!(asked(&paper::EXAMPLE.unanswered()), 29);
     for at in 0..right.len() {
         for answer in (0..32).filter(|&answer| answer != right[at][2]) {
             let mut events = right.clone();
@@ -116,7 +116,7 @@ fn every_answer_is_compared() {
         }
     }
     // An answer that would do, where working gives another.
-    let mut events = paper::answered();
+    let mut events = paper::EXAMPLE.answered();
     events[0][2] = 8;
     assert_eq!(why(&sheet(&paper::KINDS, 0, &events), 1), refused(29, 0));
     assert_eq!(why(&sheet(&paper::KINDS, 0, &[]), 1), refused(29, 0));

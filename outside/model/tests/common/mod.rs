@@ -4,7 +4,7 @@
 use model::number::TAKEN;
 use model::program::{asked, wrote, Wrote};
 use model::{
-    event, listing, paper, start, valid, work, write, Entry, Head, Post, BLOCK_BYTES,
+    event, listing, paper, start, valid, work, write, Entry, Head, Listed, Post, BLOCK_BYTES,
     EVENTS_PER_BLOCK,
 };
 
@@ -15,7 +15,7 @@ pub fn sheet(kinds: &[u32], stamp: u32, events: &[Entry]) -> Vec<u8> {
 }
 
 pub fn fifteen() -> Vec<u8> {
-    sheet(&paper::KINDS, 0, &paper::unanswered())
+    sheet(&paper::KINDS, 0, &paper::EXAMPLE.unanswered())
 }
 
 pub fn work_whole(sheet: &[u8]) -> Vec<u8> {
@@ -59,18 +59,13 @@ pub fn answered_so(kinds: &[u32], examples: &[Example]) {
     }
 }
 
-/// A sheet from stamp 0 is listed so, worked to these answers, and asked since when.
-pub fn listed_so(
-    kinds: &[u32],
-    handed_in: &[Entry],
-    answered: &[Entry],
-    text: &str,
-    since: &[(&[&str], &str)],
-) {
-    let (handed_in, answered) = (sheet(kinds, 0, handed_in), sheet(kinds, 0, answered));
-    assert_eq!(listing(&handed_in), text);
+/// Its sheet is listed so, worked to these answers, and asked since when.
+pub fn listed_so(example: &Listed) {
+    let handed_in = sheet(example.kinds, 0, &example.unanswered());
+    let answered = sheet(example.kinds, 0, &example.answered());
+    assert_eq!(listing(&handed_in), example.text);
     assert_eq!(work_whole(&handed_in), answered);
-    for (words, text) in since {
+    for (words, text) in example.since {
         let given = asked(words).map(|asked| wrote(asked, &answered));
         assert_eq!(given, Some(Wrote::printing(text)), "{words:?}");
     }
