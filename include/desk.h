@@ -79,14 +79,21 @@ struct desk_told {
     struct desk_head head;
 };
 
-/* A sheet's refusal (18 to 20) and the block that it names, or 0 and 0. */
+/*
+ * A sheet's refusal (18, 19, 20 or 24), the block that it names, and for 24 the position in that block, from 0, of the
+ * first event word whose bits 16 to 31 are not zero. The position is 0 for any other number; all three are 0 where
+ * nothing is refused. The calls below that read a sheet return the same three.
+ */
 struct desk_verdict {
-    uint32_t number, block;
+    uint32_t number, block, position;
 };
 
-/* What reading returns: number and block, and of a good sheet its posts, start stamp and events (else zeros). */
+/*
+ * What reading returns: number, block and position, and of a good sheet its posts, start stamp and events (else
+ * zeros).
+ */
 struct desk_found {
-    uint32_t number, block, posts, stamp, events;
+    uint32_t number, block, position, posts, stamp, events;
 };
 
 /* The first n records are the line; the records past them are of zeros. */
@@ -95,21 +102,27 @@ struct desk_row {
     size_t n;
 };
 
-/* What working returns: number and block, and of a worked sheet the line and the head at its end (else n is 0). */
+/*
+ * What working returns: number, block and position, and of a worked sheet the line and the head at its end (else n is
+ * 0).
+ */
 struct desk_worked {
-    uint32_t number, block;
+    uint32_t number, block, position;
     struct desk_row row;
     struct desk_head head;
 };
 
-/* What desk_why returns: 0, 0 and the position of the event that is named; or a refusal, its block and position 0. */
+/*
+ * What desk_why returns: 0, 0 and the position of the event that is named, in the sheet, from 1; or a refusal, its block
+ * and its position in that block, as desk_verdict has them.
+ */
 struct desk_since {
     uint32_t number, block, position;
 };
 
-/* What desk_export returns: 0, 0 and how many bytes the text has; or a refusal, its block and 0. */
+/* What desk_export returns: 0, 0, 0 and how many bytes the text has; or a refusal, its block and position, and 0. */
 struct desk_exported {
-    uint32_t number, block;
+    uint32_t number, block, position;
     size_t bytes;
 };
 
@@ -158,12 +171,16 @@ struct desk_told desk_event(struct desk_post *row, size_t n, struct desk_head he
  */
 bool desk_check(const uint8_t *block, size_t n, uint32_t number);
 
-/* Tests a sheet: 0 and 0, or 18, or 19 or 20 with the first bad block. Writes nothing. */
+/*
+ * Tests a sheet: 18 for its length; else the first bad block, by the first that holds there: 19, its check is wrong; 20,
+ * of block 0 its contents, of a later one its number of events; 24 with the position of the first event word whose bits
+ * 16 to 31 are not zero; 20, a word of a later block that should be zero is not. Else zeros. Writes nothing.
+ */
 struct desk_verdict desk_test(const uint8_t *sheet, size_t n);
 
 /*
  * Reads a sheet: its kinds to the front of `kinds`, its events to the front of `events`; what lies past them stays.
- * 18, 19 and 20 as desk_test; 21 where either room is too short. A refusal leaves both rooms as they were.
+ * 18, 19, 20 and 24 as desk_test; 21 where either room is too short. A refusal leaves both rooms as they were.
  */
 struct desk_found desk_read(const uint8_t *sheet, size_t n, uint32_t *kinds, size_t k, desk_entry *events, size_t m);
 
@@ -177,9 +194,9 @@ uint32_t desk_write(const uint32_t *kinds, size_t k, uint32_t stamp, const desk_
 
 /*
  * Works a sheet: takes its events one after the other from the fresh line of its table, and writes the same sheet
- * with the answers of desk_event filled in and the checks renewed to the front of `out`; the bytes past it stay. 18, 19
- * and 20 as desk_test; 20 with its block at the first event that is answered already; 21 where out is shorter than the
- * sheet. A refusal leaves out as it was.
+ * with the answers of desk_event filled in and the checks renewed to the front of `out`; the bytes past it stay. 18,
+ * 19, 20 and 24 as desk_test; 20 with its block at the first event that is answered already; 21 where out is shorter
+ * than the sheet. A refusal leaves out as it was.
  */
 struct desk_worked desk_work(const uint8_t *sheet, size_t n, uint8_t *out, size_t room);
 
@@ -187,10 +204,10 @@ struct desk_worked desk_work(const uint8_t *sheet, size_t n, uint8_t *out, size_
  * Since when: of the event at this position (from 1) of a worked sheet, which was refused 8, 9 or 13, the position of
  * the event before it that put the relay of its post in the state that refuses it: the one that last dropped L for 8,
  * that last dropped RL for 9, that last raised RL for 13. An event that found the relay in that state already is not
- * named. Position 0: RL was up from the start. 18, 19 and 20 with their block as desk_test; then 29 with block 0 where
- * any of the sheet's answers, before or behind that event, is not the one that desk_work gives (so it is with a sheet
- * not yet answered), where there is no event at this position (so it is with position 0), or where its answer is not
- * 8, 9 or 13. Writes nothing.
+ * named. Position 0: RL was up from the start. 18, 19, 20 and 24 with block and position as desk_test; then 29 with
+ * block 0 where any of the sheet's answers, before or behind that event, is not the one that desk_work gives (so it is
+ * with a sheet not yet answered), where there is no event at this position (so it is with position 0), or where its
+ * answer is not 8, 9 or 13. Writes nothing.
  */
 struct desk_since desk_why(const uint8_t *sheet, size_t n, uint32_t position);
 
@@ -202,8 +219,8 @@ struct desk_since desk_why(const uint8_t *sheet, size_t n, uint32_t position);
  *     ,,,START,                              the start stamp
  *     ,KIND,POST,,                           one for each post, from post 0
  *     POSITION,EVENT,POST,STAMP,ANSWER       one for each event, from position 1
- * 18, 19 and 20 with their block as desk_test; then 21 with block 0 where out is shorter than the text, which a room of
- * DESK_TEXT never is. A refusal leaves out as it was.
+ * 18, 19, 20 and 24 with block and position as desk_test; then 21 with block 0 where out is shorter than the text, which
+ * a room of DESK_TEXT never is. A refusal leaves out as it was.
  */
 struct desk_exported desk_export(const uint8_t *sheet, size_t n, uint8_t *out, size_t room);
 
