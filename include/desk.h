@@ -113,8 +113,8 @@ struct desk_worked {
 };
 
 /*
- * What desk_why returns: 0, 0 and the position of the event that is named, in the sheet, from 1; or a refusal, its block
- * and its position in that block, as desk_verdict has them.
+ * What desk_why returns: 0, 0 and the position of the event that is named, in the sheet, from 1; or a refusal, its
+ * block and the position in that block, as desk_verdict has them.
  */
 struct desk_since {
     uint32_t number, block, position;
@@ -172,9 +172,10 @@ struct desk_told desk_event(struct desk_post *row, size_t n, struct desk_head he
 bool desk_check(const uint8_t *block, size_t n, uint32_t number);
 
 /*
- * Tests a sheet: 18 for its length; else the first bad block, by the first that holds there: 19, its check is wrong; 20,
- * of block 0 its contents, of a later one its number of events; 24 with the position of the first event word whose bits
- * 16 to 31 are not zero; 20, a word of a later block that should be zero is not. Else zeros. Writes nothing.
+ * Tests a sheet: 18 for its length; else the first bad block, with the first of these that is so: 19, its check is
+ * wrong; 20, it is block 0 and its contents are wrong, or its number of events is; 24, an event word has a bit from 16
+ * to 31 up, with the position of the first such event; 20, a word that should be zero is not. Else zeros. Writes
+ * nothing.
  */
 struct desk_verdict desk_test(const uint8_t *sheet, size_t n);
 
@@ -219,8 +220,8 @@ struct desk_since desk_why(const uint8_t *sheet, size_t n, uint32_t position);
  *     ,,,START,                              the start stamp
  *     ,KIND,POST,,                           one for each post, from post 0
  *     POSITION,EVENT,POST,STAMP,ANSWER       one for each event, from position 1
- * 18, 19, 20 and 24 with block and position as desk_test; then 21 with block 0 where out is shorter than the text, which
- * a room of DESK_TEXT never is. A refusal leaves out as it was.
+ * 18, 19, 20 and 24 with block and position as desk_test; then 21 with block 0 where out is shorter than the text,
+ * which a room of DESK_TEXT never is. A refusal leaves out as it was.
  */
 struct desk_exported desk_export(const uint8_t *sheet, size_t n, uint8_t *out, size_t room);
 

@@ -28,9 +28,9 @@ unfolding startLine
 start-bytes = rw (digits-one 0 (omega arith), spaced-none)
 
 -- a refusal's line is another, and so is that of an event
-refused-other : (n b : ℕ) → refusedLine n b ≡ startLine → ⊥
+refused-other : (n b p : ℕ) → refusedLine n b p ≡ startLine → ⊥
 unfolding refusedLine
-refused-other n b e = omega (arith, ap (λ (t : List ℕ). getD t 0 0) (e ∙ start-bytes))
+refused-other n b p e = omega (arith, ap (λ (t : List ℕ). getD t 0 0) (e ∙ start-bytes))
 
 event-other : (k e p r : ℕ) → 1 ≤ k → eventLine k e p r ≡ startLine → ⊥
 unfolding eventLine
@@ -59,7 +59,7 @@ module _ (s : List ℕ) (k : ℕ) where
         (answerable s k y .read, rw e (omega (arith, w .0, w .1)))
 
     -- ---- the outcomes
-    pub text-refused : (r .number ≡ 0 → ⊥) → sinceText s k ≡ refusedLine (r .number) (r .block)
+    pub text-refused : (r .number ≡ 0 → ⊥) → sinceText s k ≡ refusedLine (r .number) (r .block) (r .position)
     unfolding sinceText answerText
     text-refused n = rw (← e, ne-eqb (r .number) 0 n)
 
@@ -89,7 +89,7 @@ only-start s k r e t =
     equal-or-not (r .number) 0
     (λ z. equal-or-not (r .position) 0 (λ p. (z, p))
     (λ p. absurd (event-other (r .position) _ _ _ (omega arith) (sym (text-event s k r e z p) ∙ t))))
-    (λ n. absurd (refused-other (r .number) (r .block) (sym (text-refused s k r e n) ∙ t)))
+    (λ n. absurd (refused-other (r .number) (r .block) (r .position) (sym (text-refused s k r e n) ∙ t)))
 
 -- 'RL up from the start gives position 0': a 0 alone is printed exactly there, and never for a refusal
 pub start-iff : (s : List ℕ) (k : ℕ) → (sinceText s k ≡ startLine) ↔ ((sinceOf s k .number ≡ 0) × (sinceOf s k .position ≡ 0))

@@ -25,7 +25,7 @@ unfoldable pub answerText : Sheet → Since → List ℕ
 answerText t r =
     pick (eqb (r .number) 0)
     (pick (eqb (r .position) 0) startLine (eventText t (r .position)))
-    (refusedLine (r .number) (r .block))
+    (refusedLine (r .number) (r .block) (r .position))
 
 unfoldable pub sinceText : List ℕ → ℕ → List ℕ
 sinceText s k = answerText (decode s) (sinceOf s k)

@@ -82,7 +82,7 @@ fn work_sheet() {
     };
     let done = working::work(&s[..n], &mut out);
     if done.number != 0 {
-        tell_refused(done.number, done.block as u64);
+        tell_refused(done.number, done.block as u64, done.position);
         return;
     }
     stream::print(&out[..n]);
@@ -108,7 +108,7 @@ fn export_sheet() {
     };
     let done = exporting::export(&s[..n], &mut page);
     if done.number != 0 {
-        tell_refused(done.number, done.block as u64);
+        tell_refused(done.number, done.block as u64, done.position);
         return;
     }
     let m = done.bytes;
@@ -142,7 +142,7 @@ fn print_imported(s: State, mut kinds: [u32; 32], mut events: [[u32; 4]; MOST_EN
     let mut out = [0u8; MOST_BYTES];
     let done = importing::settle(s, &mut kinds, &mut events, &mut out);
     if done.number != 0 {
-        tell_refused(done.number, done.at);
+        tell_refused(done.number, done.at, 0);
         return;
     }
     let n = done.bytes;
@@ -150,9 +150,9 @@ fn print_imported(s: State, mut kinds: [u32; 32], mut events: [[u32; 4]; MOST_EN
 }
 
 // Says on standard error that the sheet is refused, and where.
-fn tell_refused(number: u32, place: u64) {
+fn tell_refused(number: u32, place: u64, position: u32) {
     let mut line = [0u8; listing::LINE];
-    let m = listing::refused_line(&mut line, number, place);
+    let m = listing::refused_line(&mut line, number, place, position);
     stream::write_whole(STDERR_FILENO, &line[..m]);
 }
 

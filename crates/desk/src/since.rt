@@ -22,7 +22,7 @@ pub fn since_text(s: &[u8], position: u32, out: &mut [u8; LINE]) -> usize
 {
     let since = why::since_when(s, position);
     if since.number != 0 {
-        return listing::refused_line(out, since.number, since.block as u64);
+        return listing::refused_line(out, since.number, since.block as u64, since.position);
     }
     let at = since.position;
     if at == 0 {

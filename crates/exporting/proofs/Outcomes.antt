@@ -11,7 +11,7 @@ use lib.ListN.{length, drop}
 use Rattle.relay.proofs.Truth.{by}
 use Rattle.digits.specs.Texts.{stored}
 use Rattle.sheet.specs.Layout.{roomShort}
-use Rattle.sheet.specs.Reading.{accepted, verdictOf, refused}
+use Rattle.sheet.specs.Reading.{accepted, verdict, verdictOf, refused}
 use Rattle.exporting.specs.Exporting as spec
 use Rattle.exporting.specs.Exporting.{done, textFor, exportOf, exportInto, Exports}
 use Rattle.exporting.specs.declared.Exported.{Exported}
@@ -23,12 +23,12 @@ unfolding stored
 stored-front d t = let e : 0 + length t ≡ length t = omega arith in rw e refl
 
 module _ (s out : List ℕ) where
-  pub exports-unread : accepted s ≡ false → Exports s (spec.refused (verdictOf s .number) (verdictOf s .block)) out out
+  pub exports-unread : accepted s ≡ false → Exports s (spec.refused (verdictOf s)) out out
   unfolding exportOf exportInto
   exports-unread h = (rw h, rw (h, h))
 
   module _ (z : verdictOf s .number ≡ 0) where
-    pub exports-short : length out < length (textFor s) → Exports s (spec.refused roomShort 0) out out
+    pub exports-short : length out < length (textFor s) → Exports s (spec.refused (verdict roomShort 0)) out out
     unfolding exportOf exportInto
     exports-short h = let a = eq-eqb (verdictOf s .number) 0 z in let b = lt-ltb (length out) (length (textFor s)) h in (rw (a, b), rw (a, b))
 

@@ -1,5 +1,5 @@
 -- Export. 02, item 3: 'Export a sheet to text by RFC 4180'.
--- What is returned and what is written, each one equation: a refusal of reading with its block, 21 for an output too short, or 0 and the register's text at the front of the output.
+-- What is returned and what is written, each one equation: a refusal of reading with its block and position, 21 for an output too short, or 0 and the register's text at the front of the output.
 -- Assumes nothing.
 use Prim.Native.Nat.{ℕ}
 use mathlib.Core.Bool.{not}
@@ -9,17 +9,18 @@ use lib.Dec.{eqb, ltb}
 use lib.ListN.{length, drop}
 use Rattle.relay.specs.Choice.{pick}
 use Rattle.sheet.specs.Layout.{roomShort}
-use Rattle.sheet.specs.Reading.{accepted, verdictOf, decode}
+use Rattle.sheet.specs.Reading.{accepted, verdict, verdictOf, decode}
+use Rattle.sheet.specs.declared.Verdict.{Verdict}
 use Rattle.register.specs.Register.{exported}
 use Rattle.exporting.specs.declared.Exported.{Exported}
 
 -- what a refusal returns
-abbrev pub refused : ℕ → ℕ → Exported
-refused number block = record { number = number; block = block; bytes = 0 }
+abbrev pub refused : Verdict → Exported
+refused v = record { number = v .number; block = v .block; position = v .position; bytes = 0 }
 
 -- what export returns of a text of n bytes
 abbrev pub done : ℕ → Exported
-done n = record { number = 0; block = 0; bytes = n }
+done n = record { number = 0; block = 0; position = 0; bytes = n }
 
 -- the register of the sheet s
 abbrev pub textFor : List ℕ → List ℕ
@@ -28,8 +29,8 @@ textFor s = exported (decode s)
 -- what is returned, with an output of m bytes
 unfoldable pub exportOf : List ℕ → ℕ → Exported
 exportOf s m =
-    pick (not (accepted s)) (refused (verdictOf s .number) (verdictOf s .block))
-    (pick (ltb m (length (textFor s))) (refused roomShort 0) (done (length (textFor s))))
+    pick (not (accepted s)) (refused (verdictOf s))
+    (pick (ltb m (length (textFor s))) (refused (verdict roomShort 0)) (done (length (textFor s))))
 
 -- the output afterwards: the text and then what was there; on a refusal as it was
 unfoldable pub exportInto : List ℕ → List ℕ → List ℕ

@@ -3,6 +3,7 @@ ghost use Prim.Native.Nat.{_+_, _≤_, _<_};
 ghost use mathlib.Core.Path.{_≡_};
 ghost use lib.ListN.{length};
 ghost use Rattle.digits.specs.Texts.{Put};
+ghost use Rattle.sheet.specs.Reading.{verdictAt};
 ghost use Rattle.exporting.specs.Fields.{field, ended, textOf, count, fieldsAt, registerOf, Few};
 ghost use Rattle.exporting.specs.Exporting.{refused, Exports};
 use sheet::layout::MOST_ENTRIES;
@@ -11,11 +12,12 @@ use sheet::layout::ROOM_SHORT;
 // Room for any register: the header, the start, 32 kinds and 3,780 events.
 pub const PAGE: usize = 34 + 16 + 32 * 10 + MOST_ENTRIES * 26;
 
-// What export returns: the number and block of a refusal, or 0 and 0 and how long the text is.
+// What export returns: the number, block and position of a refusal, or zeros and how long the text is.
 #[repr(C)]
 pub struct Exported {
     pub number: u32,
     pub block: u32,
+    pub position: u32,
     pub bytes: usize,
 }
 
@@ -167,12 +169,13 @@ fn put_text(out: &mut [u8], stamp: u32, kinds: &[u32], events: &[[u32; 4]]) -> u
 }
 
 // What a refusal returns.
-fn refuse(number: u32, block: u32) -> Exported
-    ensures { λ r. ⌜ r ≡ refused number block ⌝ }
+fn refuse(number: u32, block: u32, position: u32) -> Exported
+    ensures { λ r. ⌜ r ≡ refused (verdictAt number block position) ⌝ }
 {
     Exported {
         number: number,
         block: block,
+        position: position,
         bytes: 0,
     }
 }
@@ -185,7 +188,7 @@ pub fn export(s: &[u8], out: &mut [u8]) -> Exported
     let mut events = [[0u32; 4]; MOST_ENTRIES];
     let found = sheet::read(s, &mut kinds, &mut events);
     if found.number != 0 {
-        return refuse(found.number, found.block);
+        return refuse(found.number, found.block, found.position);
     }
     let n = found.posts as usize;
     let m = found.events as usize;
@@ -193,12 +196,13 @@ pub fn export(s: &[u8], out: &mut [u8]) -> Exported
     let es = &events[..m];
     let size = size_of(found.stamp, ks, es);
     if out.len() < size {
-        return refuse(ROOM_SHORT, 0);
+        return refuse(ROOM_SHORT, 0, 0);
     }
     put_text(out, found.stamp, ks, es);
     Exported {
         number: 0,
         block: 0,
+        position: 0,
         bytes: size,
     }
 }

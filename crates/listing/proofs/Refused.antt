@@ -2,13 +2,17 @@
 -- Assumes nothing.
 use Prim.Native.Nat.{ℕ, _≤_}
 use mathlib.Core.Path.{_≡_}
-use mathlib.Core.List.{List, [], _∷_, _++_, append-assoc, append-nil}
+use mathlib.Core.List.{List, [], _∷_, _++_, append-assoc}
 use native.Mathlib.Omega.{arith}
-use lib.ListN.{length, set}
+use lib.Dec.{eqb}
+use lib.ListN.{length, set, take, length-append}
+use Rattle.relay.proofs.Truth.{split}
+use Rattle.relay.specs.Choice.{pick}
+use Rattle.sheet.specs.Layout.{upperBits}
 use Rattle.digits.specs.Digits.{digits}
 use Rattle.digits.specs.Texts.{stored}
 use Rattle.digits.proofs.Stores.{put-one, stored-more}
-use Rattle.listing.specs.Lines.{space, spaced, lineFeed, refusedLine}
+use Rattle.listing.specs.Lines.{space, spaced, ended, eventNamed, refusedLine}
 
 -- the word "refused" and a space, a byte at a time
 abbrev pub refused : List ℕ
@@ -27,7 +31,19 @@ refused-put d h =
       stored-more d 0 (114 ∷ 101 ∷ 102 ∷ 117 ∷ 115 ∷ 101 ∷ 100 ∷ []) space (omega arith),
     )
 
+-- the event that is named, as a part of one number
+pub named-few : (n : ℕ) → pick (eqb n upperBits) 1 0 ≤ 1
+named-few n = split (eqb n upperBits) (λ t. rw t (omega arith)) (λ t. rw t (omega arith))
+
+pub named-part : (n e : ℕ) → take (pick (eqb n upperBits) 1 0) (e ∷ []) ≡ eventNamed n e
+unfolding eventNamed
+named-part n e = split (eqb n upperBits) (λ t. rw t) (λ t. rw t)
+
+pub named-long : (n e : ℕ) → length (digits e) ≤ 10 → length (ended (eventNamed n e)) ≤ 12
+unfolding eventNamed spaced
+named-long n e h = split (eqb n upperBits) (λ t. rw t (simp length-append (omega arith))) (λ t. rw t (omega arith))
+
 -- the line in its pieces
-pub refused-pieces : (n p : ℕ) → (((refused ++ digits n) ++ (space ∷ [])) ++ digits p) ++ (lineFeed ∷ []) ≡ refusedLine n p
+pub refused-pieces : (n p e : ℕ) → (((refused ++ digits n) ++ (space ∷ [])) ++ digits p) ++ ended (eventNamed n e) ≡ refusedLine n p e
 unfolding refusedLine spaced
-refused-pieces n p = simp (append-assoc, append-nil)
+refused-pieces n p e = simp append-assoc

@@ -22,9 +22,9 @@ use Rattle.sheet.specs.Sheet.{Sheet, encode}
 use Rattle.sheet.specs.declared.Found.{Found}
 use Rattle.working.proofs.Steps.{run-long}
 use Rattle.working.proofs.Twice.{worked-writable, same-length}
-use Rattle.working.proofs.Works.{no, said-table}
+use Rattle.working.proofs.Works.{said-table}
 use Rattle.working.specs.Run.{begun, run}
-use Rattle.working.specs.Working.{worked, workVerdict, workOf, workedBytes, Works}
+use Rattle.working.specs.Working.{worked, refused, workVerdict, workOf, workedBytes, Works}
 use Rattle.working.specs.declared.Worked.{Worked}
 use Rattle.listing.specs.Lines.{refusedLine}
 use Rattle.listing.specs.Listing.{eventLines, sectionLines, lineAfter, answerTo, listingOf}
@@ -47,15 +47,15 @@ module _ (s : List ℕ) where
 
     module _ (r : Worked) (out′ : List ℕ) (w : Works s r out out′) where
       -- refused, or worked
-      refused-is : eqb (answerTo s .number) 0 ≡ false → r ≡ no (answerTo s)
+      refused-is : eqb (answerTo s .number) 0 ≡ false → r ≡ refused (answerTo s)
       unfolding workOf
       refused-is f = w .0 ∙ rw (same-answer, f)
 
-      worked-is : eqb (answerTo s .number) 0 ≡ true → r ≡ record { number = 0; block = 0; row = rowOf (lineAfter (decode s)); head = run (begun (decode s .kinds) (decode s .stamp)) (decode s .events) .told .head }
+      worked-is : eqb (answerTo s .number) 0 ≡ true → r ≡ record { number = 0; block = 0; position = 0; row = rowOf (lineAfter (decode s)); head = run (begun (decode s .kinds) (decode s .stamp)) (decode s .events) .told .head }
       unfolding workOf
       worked-is y = w .0 ∙ rw (same-answer, y)
 
-      pub listing-refused : (r .number ≡ 0 → ⊥) → listingOf s ≡ refusedLine (r .number) (r .block)
+      pub listing-refused : (r .number ≡ 0 → ⊥) → listingOf s ≡ refusedLine (r .number) (r .block) (r .position)
       unfolding listingOf
       listing-refused n =
           split (eqb (answerTo s .number) 0)

@@ -3,7 +3,10 @@
 use Prim.Native.Nat.{ℕ}
 use mathlib.Core.Path.{_≡_}
 use mathlib.Core.List.{List, [], _∷_, _++_}
+use lib.Dec.{eqb}
 use lib.ListN.{length}
+use Rattle.relay.specs.Choice.{pick}
+use Rattle.sheet.specs.Layout.{upperBits}
 use Rattle.digits.specs.Digits.{digits}
 use Rattle.digits.specs.Texts.{stored}
 
@@ -35,9 +38,13 @@ eventLine position event post answer = line (digits position) (event ∷ post �
 unfoldable pub sectionLine : List ℕ → List ℕ
 sectionLine ns = line (83 ∷ []) ns
 
+-- 02, item 6: after 24 'the event's position in the block, from 0 (printed last)'; after any other number nothing
+unfoldable pub eventNamed : ℕ → ℕ → List ℕ
+eventNamed number position = pick (eqb number upperBits) (position ∷ []) []
+
 -- '"refused", its number and the block', or another place
-unfoldable pub refusedLine : ℕ → ℕ → List ℕ
-refusedLine number place = line (114 ∷ 101 ∷ 102 ∷ 117 ∷ 115 ∷ 101 ∷ 100 ∷ []) (number ∷ place ∷ [])
+unfoldable pub refusedLine : ℕ → ℕ → ℕ → List ℕ
+refusedLine number place position = line (114 ∷ 101 ∷ 102 ∷ 117 ∷ 115 ∷ 101 ∷ 100 ∷ []) (number ∷ place ∷ eventNamed number position)
 
 -- what a call that puts a text states: r is its length, and it stands at the front of the lent bytes; what stands past it stays
 abbrev pub Lined : List ℕ → ℕ → List ℕ → List ℕ → Type 0

@@ -1,4 +1,4 @@
--- The whole listing. 01, 'The program and one listing': 'The working program reads a sheet on standard input and prints one line per event: position from 1, event, post, answer. Then one line per section: S, section, a, r, x, q, e, y, v, g, h. Single spaces, each line ended by a line feed. A refused sheet prints only "refused", its number and the block (0 for 18).'
+-- The whole listing. 01, 'The program and one listing': 'The working program reads a sheet on standard input and prints one line per event: position from 1, event, post, answer. Then one line per section: S, section, a, r, x, q, e, y, v, g, h. Single spaces, each line ended by a line feed. A refused sheet prints only "refused", its number and the block (0 for 18).' 02, item 6: and the event's position, 'printed last'.
 -- Assumes nothing.
 use Prim.Native.Nat.{ℕ, suc}
 use mathlib.Core.List.{List, [], _∷_, _++_}
@@ -38,4 +38,4 @@ unfoldable pub listingOf : List ℕ → List ℕ
 listingOf s =
     pick (eqb (answerTo s .number) 0)
     (eventLines 1 (worked (decode s) .events) ++ sectionLines 0 (lineAfter (decode s)))
-    (refusedLine (answerTo s .number) (answerTo s .block))
+    (refusedLine (answerTo s .number) (answerTo s .block) (answerTo s .position))

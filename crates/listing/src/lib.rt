@@ -1,13 +1,18 @@
 // The listing of a sheet, put into a lent page. 01, 'The program and one listing'.
 ghost use Prim.Native.Nat.{_+_, _*_, _≤_};
+ghost use mathlib.Core.Path.{_≡_};
+ghost use lib.Dec.{eqb};
 ghost use lib.ListN.{length};
+ghost use Rattle.relay.specs.Choice.{pick};
 ghost use Rattle.row.specs.Row.{lineOf};
+ghost use Rattle.sheet.specs.Layout.{upperBits};
 ghost use Rattle.listing.specs.Lines.{ended, eventLine, sectionLine, refusedLine, Lined};
 ghost use Rattle.listing.specs.Listing.{eventLines, sectionLines, listingOf};
 ghost use Rattle.digits.specs.Texts.{Put};
 use row::Row;
 use sheet::layout::MOST_BYTES;
 use sheet::layout::MOST_ENTRIES;
+use sheet::layout::UPPER_BITS;
 
 // Room for any line.
 pub const LINE: usize = 128;
@@ -53,10 +58,17 @@ fn put_section(out: &mut [u8], at: usize, numbers: [u32; 10]) -> usize
     put_rest(out, at + 1, &numbers)
 }
 
-// '"refused", its number and the block', or another place, at the front; how long the line is.
-fn put_refused(out: &mut [u8], number: u32, place: u64) -> usize
+// How many events the line of a refusal names: the one whose word has upper bits.
+fn events_named(number: u32) -> usize
+    ensures { λ r. ⌜ r ≡ pick (eqb number upperBits) 1 0 ⌝ }
+{
+    if number == UPPER_BITS { 1 } else { 0 }
+}
+
+// '"refused", its number and the block', or another place, and the position of the event that 24 names, at the front; how long the line is.
+fn put_refused(out: &mut [u8], number: u32, place: u64, position: u32) -> usize
     requires { ⌜ 128 ≤ length (now out) ⌝ }
-    ensures { λ r. ⌜ Lined (refusedLine number place) r (now (out .entry)) (now (out .exit)) ⌝ }
+    ensures { λ r. ⌜ Lined (refusedLine number place position) r (now (out .entry)) (now (out .exit)) ⌝ }
 {
     out[0] = 114;
     out[1] = 101;
@@ -69,8 +81,9 @@ fn put_refused(out: &mut [u8], number: u32, place: u64) -> usize
     let p = digits::put_number(out, 8, number as u64);
     out[p] = 32;
     let q = digits::put_number(out, p + 1, place);
-    out[q] = 10;
-    q + 1
+    let ns = [position];
+    let k = events_named(number);
+    put_rest(out, q, &ns[..k])
 }
 
 // One line for each event, at the front; how long they are.
@@ -127,10 +140,10 @@ pub fn section_line(out: &mut [u8; LINE], numbers: [u32; 10]) -> usize
 }
 
 // A refusal's.
-pub fn refused_line(out: &mut [u8; LINE], number: u32, place: u64) -> usize
-    ensures { λ r. ⌜ Lined (refusedLine number place) r (now (out .entry)) (now (out .exit)) ⌝ }
+pub fn refused_line(out: &mut [u8; LINE], number: u32, place: u64, position: u32) -> usize
+    ensures { λ r. ⌜ Lined (refusedLine number place position) r (now (out .entry)) (now (out .exit)) ⌝ }
 {
-    put_refused(out, number, place)
+    put_refused(out, number, place, position)
 }
 
 // Works the sheet and puts its listing at the front of the page; how long it is.
@@ -140,7 +153,7 @@ pub fn list(s: &[u8], page: &mut [u8; PAGE]) -> usize
     let mut out = [0u8; MOST_BYTES];
     let done = working::work(s, &mut out);
     if done.number != 0 {
-        return put_refused(page, done.number, done.block as u64);
+        return put_refused(page, done.number, done.block as u64, done.position);
     }
     let n = s.len();
     let mut kinds = [0u32; 32];

@@ -7,21 +7,21 @@ use mathlib.Core.Bool.{Bool, true, false, _&&_, _||_, false≢true}
 use mathlib.Core.List.{List}
 use native.Mathlib.Nat.{eq-or-lt-of-le}
 use native.Mathlib.Omega.{arith}
-use borrow.Author.Tests.{eq-eqb, ne-eqb, eqb-true, eqb-false, ltb-true, lt-ltb, leb-true, le-leb}
-use lib.Dec.{eqb, leb, ltb}
+use borrow.Author.Tests.{eq-eqb, ne-eqb, eqb-true, eqb-false, leb-true, le-leb}
+use lib.Dec.{eqb, leb}
 use lib.ListN.{length}
 use Rattle.relay.proofs.Truth.{and-facts}
 use Rattle.relay.specs.Choice.{pick}
 use Rattle.relay.specs.Kinds.{tableOk}
 use Rattle.sheet.specs.Layout.{blockBytes, checkAt, mostBlocks, perBlock}
 use Rattle.sheet.specs.Check.{word}
-use Rattle.sheet.specs.Entry.{upperZero}
-use Rattle.sheet.specs.Reading.{kindsIn, headOk, eventsFit, eventsOk, entriesOk, zeros, contentsOk, lengthOk, blocksIn, verdictOf}
+use Rattle.sheet.specs.Reading.{kindsIn, headOk, eventsFit, eventsOk, firstUpper, entriesOk, zeros, contentsOk, lengthOk, blocksIn, verdictOf}
 use Rattle.sheet.proofs.Good.{Good}
 use Rattle.sheet.proofs.Lengths.{Whole, whole}
 use Rattle.sheet.proofs.Table.{table-few}
 use Rattle.sheet.proofs.First.{GoodBlock, AllGood, good-blocks}
 use Rattle.sheet.proofs.Sums.{checks-iff}
+use Rattle.sheet.proofs.Upper.{First, first-upper, one-first}
 
 -- ---- the loops, by index
 zeros-all : (s : List ℕ) (b k n : ℕ) → zeros s b k n ≡ true → (j : ℕ) → k ≤ j → j < k + n → word s b j ≡ 0
@@ -37,18 +37,12 @@ all-zeros s b k zero f = refl
 all-zeros s b k (suc n) f =
     rw (eq-eqb (word s b k) 0 (f k (omega arith) (omega arith))) (all-zeros s b (k + 1) n (λ j p q. f j (omega arith) (omega arith)))
 
-entries-all : (s : List ℕ) (b k n : ℕ) → entriesOk s b k n ≡ true → (j : ℕ) → k ≤ j → j < k + n → word s b (1 + j * 2) < 65536
-unfolding entriesOk upperZero
-entries-all s b k zero e j p q = absurd (omega arith)
-entries-all s b k (suc n) e j p q =
-    let f = and-facts (ltb (word s b (1 + k * 2)) 65536) (entriesOk s b (k + 1) n) .0 e in
-    ⊎-elim (λ t. rw (← t) (ltb-true (word s b (1 + k * 2)) 65536 (f .0))) (λ l. entries-all s b (k + 1) n (f .1) j (omega arith) (omega arith)) (eq-or-lt-of-le p)
-
-all-entries : (s : List ℕ) (b k n : ℕ) → ((j : ℕ) → k ≤ j → j < k + n → word s b (1 + j * 2) < 65536) → entriesOk s b k n ≡ true
-unfolding entriesOk upperZero
-all-entries s b k zero f = refl
-all-entries s b k (suc n) f =
-    rw (lt-ltb (word s b (1 + k * 2)) 65536 (f k (omega arith) (omega arith))) (all-entries s b (k + 1) n (λ j p q. f j (omega arith) (omega arith)))
+entries-iff : (s : List ℕ) (b n : ℕ) → (entriesOk s b n ≡ true) ↔ ((j : ℕ) → j < n → word s b (1 + j * 2) < 65536)
+entries-iff s b n =
+    let r = first-upper s b 0 n in (
+      λ e j q. r .before j (omega arith) (omega (arith, eqb-true (firstUpper s b 0 n) n e)),
+      λ f. eq-eqb (firstUpper s b 0 n) n (one-first s b n _ n r (record { most = omega arith; before = λ j p q. f j q; here = λ h. absurd (omega arith) })),
+    )
 
 -- ---- block 0
 pub record GoodHead (s : List ℕ) : Type 0 where
@@ -96,19 +90,19 @@ unfolding eventsOk
 events-iff s b last = (
   λ e.
       let m = word s b 0 in
-      let f = and-facts (eventsFit m last) (entriesOk s b 0 m && zeros s b (1 + m * 2) (checkAt - (1 + m * 2))) .0 e in
+      let f = and-facts (eventsFit m last) (entriesOk s b m && zeros s b (1 + m * 2) (checkAt - (1 + m * 2))) .0 e in
       let g = fit-iff m last .0 (f .0) in
-      let i = and-facts (entriesOk s b 0 m) (zeros s b (1 + m * 2) (checkAt - (1 + m * 2))) .0 (f .1) in
+      let i = and-facts (entriesOk s b m) (zeros s b (1 + m * 2) (checkAt - (1 + m * 2))) .0 (f .1) in
       record {
         few = g .0;
         many = g .1;
         full = g .2;
-        fields = λ j q. entries-all s b 0 m (i .0) j (omega arith) (omega arith);
+        fields = entries-iff s b m .0 (i .0);
         zero = λ k p q. zeros-all s b (1 + m * 2) (checkAt - (1 + m * 2)) (i .1) k p (omega arith);
       },
   λ r.
       let m = word s b 0 in
-      rw (fit-iff m last .1 (r .few, r .many, r .full), all-entries s b 0 m (λ j p q. r .fields j (omega arith)))
+      rw (fit-iff m last .1 (r .few, r .many, r .full), entries-iff s b m .1 (r .fields))
       (all-zeros s b (1 + m * 2) (checkAt - (1 + m * 2)) (λ j p q. r .zero j p (omega (arith, r .many)))),
 )
 

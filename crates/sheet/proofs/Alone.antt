@@ -16,7 +16,7 @@ use Rattle.sheet.specs.Check.{sum, word, checksAs, checks, checksAlone, 
 use Rattle.sheet.specs.Reading.{lengthOk, blocksIn, verdict, verdictOf}
 use Rattle.sheet.specs.declared.Verdict.{Verdict}
 use Rattle.sheet.proofs.Bytes.{word-drop, word-take}
-use Rattle.sheet.proofs.First.{AllGood, NamedSheet, bad-length, blocks, all-good, bad-check, bad-contents, verdict-iff, good-blocks}
+use Rattle.sheet.proofs.First.{AllGood, NamedSheet, bad-length, blocks, all-good, bad-check, bad-contents, upper, other, verdict-iff, good-blocks}
 use Rattle.sheet.proofs.Lengths.{whole}
 use Rattle.sheet.proofs.Sums.{sum-agree, checks-iff}
 
@@ -77,7 +77,8 @@ module _ (s : List ℕ) where
   nineteen v (bad-length e) z = absurd (omega arith)
   nineteen v (blocks e (all-good f)) z = absurd (omega arith)
   nineteen v (blocks e (bad-check x a y f c)) z = (e, y, f, c)
-  nineteen v (blocks e (bad-contents x a y f c d)) z = absurd (omega arith)
+  nineteen v (blocks e (bad-contents x a y f c d (upper p u))) z = absurd (omega arith)
+  nineteen v (blocks e (bad-contents x a y f c d (other u))) z = absurd (omega arith)
 
   -- reading says 19 and block b exactly when the blocks before it are good and block b by itself does not check
   pub nineteen-iff : (b : ℕ) → (verdictOf s ≡ verdict checkWrong b)

@@ -1,4 +1,4 @@
--- Contents are right exactly when the block's shape is, its event words are, and the rest is zero; and what each turn of the reader's loops tells.
+-- Contents are right exactly when the block's shape is, its event words are, and the rest is zero; which of these is wrong where they are not; and what each turn of the reader's loops tells.
 -- Assumes nothing.
 use Prim.Native.Nat.{ℕ, zero, suc, _+_, _-_, _*_, _≤_, _<_}
 use mathlib.Core.Path.{_≡_, refl, sym, ap, _∙_}
@@ -9,11 +9,12 @@ use borrow.Author.Tests.{eq-eqb, ne-eqb, eqb-true, leb-true}
 use lib.Dec.{eqb, leb}
 use Rattle.relay.specs.Choice.{pick}
 use Rattle.relay.specs.Kinds.{tableOk}
-use Rattle.sheet.specs.Layout.{checkAt, perBlock, checkWrong, contentsWrong}
+use Rattle.sheet.specs.Layout.{checkAt, perBlock, checkWrong, contentsWrong, upperBits}
 use Rattle.sheet.specs.Check.{word, checks}
 use Rattle.sheet.specs.Entry.{upperZero}
-use Rattle.sheet.specs.Reading.{kindsIn, headOk, eventsFit, eventsOk, entriesOk, zeros, contentsOk, verdict, firstBad}
+use Rattle.sheet.specs.Reading.{kindsIn, headOk, eventsFit, eventsOk, firstUpper, entriesOk, zeros, contentsOk, verdictAt, verdict, contentsFault, firstBad}
 use Rattle.sheet.specs.Shape.{shape, shapeOf}
+use Rattle.sheet.specs.declared.Verdict.{Verdict}
 use Rattle.sheet.specs.declared.blocks.Shape.{Shape}
 use Rattle.sheet.proofs.Table.{table-few}
 
@@ -39,11 +40,11 @@ module _ (s : List ℕ) (n b : ℕ) where
 
 -- what a shape asks of the words of block b
 abbrev pub fills : List ℕ → ℕ → Shape → Bool
-fills s b f = f .ok && (entriesOk s b 0 (f .events) && zeros s b (f .used) (checkAt - f .used))
+fills s b f = f .ok && (entriesOk s b (f .events) && zeros s b (f .used) (checkAt - f .used))
 
 head-fills : (s : List ℕ) (t : Bool) → (eqb (word s 0 0) 1 && tableOk (kindsIn s)) ≡ t
     → headOk s ≡ fills s 0 (pick t (shape true 0 (3 + word s 0 1)) (shape false 0 0))
-unfolding headOk entriesOk
+unfolding headOk firstUpper
 head-fills s true e = rw e
 head-fills s false e = rw e
 
@@ -61,6 +62,43 @@ contents-by s n b false e = rw e (events-fills s b (eqb (b + 1) n) _ refl)
 -- contents are right exactly when the shape is filled
 pub contents-fills : (s : List ℕ) (n b : ℕ) → contentsOk s n b ≡ fills s b (shapeOf s n b)
 contents-fills s n b = contents-by s n b (eqb b 0) refl
+
+-- what is said where they are not so: the event whose word has upper bits, in a block of the right shape
+abbrev pub faultIn : List ℕ → ℕ → Shape → Verdict
+faultIn s b f = pick (f .ok && not (entriesOk s b (f .events))) (verdictAt upperBits b (firstUpper s b 0 (f .events))) (verdict contentsWrong b)
+
+head-fault : (s : List ℕ) (b k : ℕ) (t : Bool) → verdict contentsWrong b ≡ faultIn s b (pick t (shape true 0 k) (shape false 0 0))
+unfolding firstUpper
+head-fault s b k true = refl
+head-fault s b k false = refl
+
+events-fault : (s : List ℕ) (b m k : ℕ) (t : Bool)
+    → pick (not t) (verdict contentsWrong b) (pick (not (entriesOk s b m)) (verdictAt upperBits b (firstUpper s b 0 m)) (verdict contentsWrong b)) ≡ faultIn s b (pick t (shape true m k) (shape false 0 0))
+events-fault s b m k true = refl
+events-fault s b m k false = refl
+
+fault-by : (s : List ℕ) (n b : ℕ) (t : Bool) → eqb b 0 ≡ t → contentsFault s n b ≡ faultIn s b (shapeOf s n b)
+unfolding contentsFault shapeOf
+fault-by s n b true e = rw e (head-fault s b (3 + word s 0 1) (eqb (word s 0 0) 1 && tableOk (kindsIn s)))
+fault-by s n b false e = rw e (events-fault s b (word s b 0) (1 + word s b 0 * 2) (eventsFit (word s b 0) (eqb (b + 1) n)))
+
+pub fault-fills : (s : List ℕ) (n b : ℕ) → contentsFault s n b ≡ faultIn s b (shapeOf s n b)
+fault-fills s n b = fault-by s n b (eqb b 0) refl
+
+-- contents that are wrong, and what is said of them
+abbrev pub Faulty : List ℕ → ℕ → Shape → Verdict → Type 0
+Faulty s b f v = (fills s b f ≡ false) × (faultIn s b f ≡ v)
+
+module _ (s : List ℕ) (b : ℕ) (f : Shape) where
+  pub wrong-shape : f .ok ≡ false → Faulty s b f (verdict contentsWrong b)
+  wrong-shape o = rw o (refl, refl)
+
+  module _ (o : f .ok ≡ true) where
+    pub wrong-entry : (j : ℕ) → firstUpper s b 0 (f .events) ≡ j → j < f .events → Faulty s b f (verdictAt upperBits b j)
+    wrong-entry j e h = rw (o, e, ne-eqb j (f .events) (λ q. omega arith)) (refl, refl)
+
+    pub wrong-zero : entriesOk s b (f .events) ≡ true → zeros s b (f .used) (checkAt - f .used) ≡ false → Faulty s b f (verdict contentsWrong b)
+    wrong-zero e z = rw (o, e, z) (refl, refl)
 
 -- ---- a shape that is right stays within the block
 both : (a b : Bool) → (a && b) ≡ true → (a ≡ true) × (b ≡ true)
@@ -92,12 +130,12 @@ left j n h = omega arith
 
 module _ (s : List ℕ) (b m j : ℕ) where
   module _ (h : j < m) where
-    pub entries-more : upperZero (word s b (1 + j * 2)) ≡ true → entriesOk s b j (m - j) ≡ entriesOk s b (j + 1) (m - (j + 1))
-    unfolding entriesOk
+    pub entries-more : upperZero (word s b (1 + j * 2)) ≡ true → firstUpper s b j (m - j) ≡ firstUpper s b (j + 1) (m - (j + 1))
+    unfolding firstUpper
     entries-more e = rw (left j m h, e)
 
-    pub entries-bad : upperZero (word s b (1 + j * 2)) ≡ false → entriesOk s b j (m - j) ≡ false
-    unfolding entriesOk
+    pub entries-bad : upperZero (word s b (1 + j * 2)) ≡ false → firstUpper s b j (m - j) ≡ j
+    unfolding firstUpper
     entries-bad e = rw (left j m h, e)
 
     pub zeros-more : word s b j ≡ 0 → zeros s b j (m - j) ≡ zeros s b (j + 1) (m - (j + 1))
@@ -108,9 +146,9 @@ module _ (s : List ℕ) (b m j : ℕ) where
     unfolding zeros
     zeros-bad e = rw (left j m h, ne-eqb (word s b j) 0 e)
 
-  pub entries-done : m ≤ j → entriesOk s b j (m - j) ≡ true
-  unfolding entriesOk
-  entries-done h = let e : m - j ≡ 0 = omega arith in rw e
+  pub entries-done : m ≤ j → j ≤ m → firstUpper s b j (m - j) ≡ firstUpper s b 0 m → entriesOk s b m ≡ true
+  unfolding firstUpper
+  entries-done h k inv = let e : m - j ≡ 0 = omega arith in rw (← inv, e) (eq-eqb j m (omega arith))
 
   pub zeros-done : m ≤ j → zeros s b j (m - j) ≡ true
   unfolding zeros
@@ -124,9 +162,9 @@ module _ (s : List ℕ) (n b : ℕ) where
     bad-check e = rw (left b n h, e)
 
     module _ (e : checks s b ≡ true) where
-      pub bad-contents : fills s b (shapeOf s n b) ≡ false → firstBad s n b (n - b) ≡ verdict contentsWrong b
+      pub bad-contents : fills s b (shapeOf s n b) ≡ false → firstBad s n b (n - b) ≡ faultIn s b (shapeOf s n b)
       unfolding firstBad
-      bad-contents f = rw (left b n h, e, contents-fills s n b, f)
+      bad-contents f = rw (left b n h, e, contents-fills s n b, f) (fault-fills s n b)
 
       pub good-block : fills s b (shapeOf s n b) ≡ true → firstBad s n b (n - b) ≡ firstBad s n (b + 1) (n - (b + 1))
       unfolding firstBad

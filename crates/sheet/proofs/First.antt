@@ -1,20 +1,23 @@
--- What reading names: the first bad block, with all before it good, and by the number which test it failed; or that every block is good.
+-- What reading names: the first bad block, with all before it good, by the number which test it failed, and the event whose word has upper bits; or that every block is good.
 -- By going along the blocks: a good one in front changes neither the name nor the number.
 -- Assumes nothing.
 use Prim.Native.Nat.{ℕ, zero, suc, _+_, _-_, _*_, _≤_, _<_}
 use mathlib.Core.Path.{_≡_, refl, sym, ap, subst, _∙_}
 use mathlib.Core.Logic.{_⊎_, inl, inr, ⊎-elim, _↔_}
-use mathlib.Core.Bool.{Bool, true, false, not}
+use mathlib.Core.Bool.{Bool, true, false, not, _||_, false≢true}
 use mathlib.Core.List.{List}
 use native.Mathlib.Nat.{eq-or-lt-of-le}
 use native.Mathlib.Omega.{arith}
+use borrow.Author.Tests.{ne-eqb, eqb-true, eqb-false}
+use lib.Dec.{eqb}
 use lib.ListN.{length}
 use Rattle.relay.specs.Choice.{pick}
-use Rattle.sheet.specs.Layout.{checkWrong, contentsWrong, lengthWrong}
-use Rattle.sheet.specs.Check.{checks}
-use Rattle.sheet.specs.Reading.{contentsOk, verdict, firstBad, lengthOk, blocksIn, verdictOf}
+use Rattle.sheet.specs.Layout.{checkWrong, contentsWrong, lengthWrong, upperBits}
+use Rattle.sheet.specs.Check.{word, checks}
+use Rattle.sheet.specs.Reading.{firstUpper, entriesOk, eventsFit, eventsOk, contentsOk, verdictAt, verdict, contentsFault, firstBad, lengthOk, blocksIn, verdictOf}
 use Rattle.sheet.specs.declared.Verdict.{Verdict}
 use Rattle.sheet.proofs.Lengths.{wrong-length, right-length}
+use Rattle.sheet.proofs.Upper.{First, first-upper, one-first}
 
 -- block b of a sheet of n blocks is good
 pub record GoodBlock (s : List ℕ) (n b : ℕ) : Type 0 where
@@ -25,12 +28,67 @@ pub record GoodBlock (s : List ℕ) (n b : ℕ) : Type 0 where
 abbrev pub AllGood : List ℕ → ℕ → ℕ → ℕ → Type 0
 AllGood s n b e = (j : ℕ) → b ≤ j → j < e → GoodBlock s n j
 
+-- the number of events of block x is right, and event p is the first of them whose word has upper bits
+pub record UpperAt (s : List ℕ) (n x p : ℕ) : Type 0 where
+  pub later : 1 ≤ x
+  pub count : eventsFit (word s x 0) (eqb (x + 1) n) ≡ true
+  pub held : p < word s x 0
+  pub before : (j : ℕ) → j < p → word s x (1 + j * 2) < 65536
+  pub here : 65536 ≤ word s x (1 + p * 2)
+
+-- what contents of block x that depart from the layout are refused with: 24 where there is such an event, which it names, else 20
+pub data Departs (s : List ℕ) (n x : ℕ) : Verdict → Type 0 where
+  upper : (p : ℕ) → UpperAt s n x p → Departs s n x (verdictAt upperBits x p)
+  other : ((p : ℕ) → UpperAt s n x p → ⊥) → Departs s n x (verdict contentsWrong x)
+
 -- what a verdict on these blocks may be
 pub data Named (s : List ℕ) (n b e : ℕ) : Verdict → Type 0 where
   all-good : AllGood s n b e → Named s n b e (verdict 0 0)
   bad-check : (x : ℕ) → b ≤ x → x < e → AllGood s n b x → checks s x ≡ false → Named s n b e (verdict checkWrong x)
-  bad-contents : (x : ℕ) → b ≤ x → x < e → AllGood s n b x → checks s x ≡ true → contentsOk s n x ≡ false → Named s n b e (verdict contentsWrong x)
+  bad-contents : (x : ℕ) {v : Verdict} → b ≤ x → x < e → AllGood s n b x → checks s x ≡ true → contentsOk s n x ≡ false → Departs s n x v → Named s n b e v
 
+-- ---- the contents of one block
+module _ (s : List ℕ) (n x : ℕ) where
+  upper-first : (p : ℕ) → UpperAt s n x p → firstUpper s x 0 (word s x 0) ≡ p
+  upper-first p u =
+      one-first s x (word s x 0) _ p (first-upper s x 0 (word s x 0))
+      (record { most = omega (arith, u .held); before = λ i h k. u .before i k; here = λ h. u .here })
+
+  departs-by : (t f u : Bool) → eqb x 0 ≡ t → eventsFit (word s x 0) (eqb (x + 1) n) ≡ f → entriesOk s x (word s x 0) ≡ u → Departs s n x (contentsFault s n x)
+  unfolding contentsFault
+  departs-by true f u a b c = rw a (other (λ p h. omega (arith, h .later, eqb-true x 0 a)))
+  departs-by false false u a b c = rw (a, b) (other (λ p h. false≢true (sym b ∙ h .count)))
+  departs-by false true true a b c =
+      rw (a, b, c) (other (λ p h. omega (arith, h .held, upper-first p h, eqb-true (firstUpper s x 0 (word s x 0)) (word s x 0) c)))
+  departs-by false true false a b c =
+      let r = first-upper s x 0 (word s x 0) in
+      let short : firstUpper s x 0 (word s x 0) < word s x 0 = below (firstUpper s x 0 (word s x 0)) (word s x 0) (omega (arith, r .most)) (eqb-false (firstUpper s x 0 (word s x 0)) (word s x 0) c) in
+      rw (a, b, c)
+      (upper _ (record {
+        later = some x (eqb-false x 0 a);
+        count = b;
+        held = short;
+        before = λ j h. r .before j (omega arith) h;
+        here = r .here (omega (arith, short));
+      }))
+    where
+      below : (m k : ℕ) → m ≤ k → (m ≡ k → ⊥) → m < k
+      below m k h e = omega arith
+
+      some : (m : ℕ) → (m ≡ 0 → ⊥) → 1 ≤ m
+      some m e = omega arith
+
+  pub departs : Departs s n x (contentsFault s n x)
+  departs = departs-by (eqb x 0) (eventsFit (word s x 0) (eqb (x + 1) n)) (entriesOk s x (word s x 0)) refl refl refl
+
+  -- no other is so
+  one-fault : (v w : Verdict) → Departs s n x v → Departs s n x w → v ≡ w
+  one-fault v w (upper p a) (upper q b) = ap (verdictAt upperBits x) (sym (upper-first p a) ∙ upper-first q b)
+  one-fault v w (upper p a) (other f) = absurd (f p a)
+  one-fault v w (other f) (upper p a) = absurd (f p a)
+  one-fault v w (other f) (other g) = refl
+
+-- ---- along the blocks
 -- one good block more in front
 front : {s : List ℕ} {n b e : ℕ} → GoodBlock s n b → AllGood s n (b + 1) e → AllGood s n b e
 front {s} {n} {b} g f j p q = ⊎-elim (λ t. subst (GoodBlock s n) t g) (λ l. f j (omega arith) q) (eq-or-lt-of-le p)
@@ -38,13 +96,13 @@ front {s} {n} {b} g f j p q = ⊎-elim (λ t. subst (GoodBlock s n) t g) (λ l. 
 more : {s : List ℕ} {n b e : ℕ} {v : Verdict} → GoodBlock s n b → Named s n (b + 1) e v → Named s n b e v
 more g (all-good f) = all-good (front g f)
 more g (bad-check x a z f c) = bad-check x (omega arith) z (front g f) c
-more g (bad-contents x a z f c d) = bad-contents x (omega arith) z (front g f) c d
+more g (bad-contents x a z f c d o) = bad-contents x (omega arith) z (front g f) c d o
 
 -- a turn, by the two tests
 turn : (s : List ℕ) (n b e : ℕ) (v : Verdict) → b < e → Named s n (b + 1) e v → (t u : Bool) → checks s b ≡ t → contentsOk s n b ≡ u
-    → Named s n b e (pick (not t) (verdict checkWrong b) (pick (not u) (verdict contentsWrong b) v))
+    → Named s n b e (pick (not t) (verdict checkWrong b) (pick (not u) (contentsFault s n b) v))
 turn s n b e v h r true true p q = more (record { checked = p; filled = q }) r
-turn s n b e v h r true false p q = bad-contents b (omega arith) h (λ j x y. absurd (omega arith)) p q
+turn s n b e v h r true false p q = bad-contents b (omega arith) h (λ j x y. absurd (omega arith)) p q (departs s n b)
 turn s n b e v h r false u p q = bad-check b (omega arith) h (λ j x y. absurd (omega arith)) p
 
 pub names : (s : List ℕ) (n b m e : ℕ) → b + m ≡ e → Named s n b e (firstBad s n b m)
@@ -77,7 +135,7 @@ all-named s n b (suc m) f =
 
 -- a block after good ones, at which reading stops with v whatever follows, is named so
 stops : (s : List ℕ) (n b m x : ℕ) (v : Verdict) → b ≤ x → x < b + m → AllGood s n b x
-    → ((r : Verdict) → pick (not (checks s x)) (verdict checkWrong x) (pick (not (contentsOk s n x)) (verdict contentsWrong x) r) ≡ v)
+    → ((r : Verdict) → pick (not (checks s x)) (verdict checkWrong x) (pick (not (contentsOk s n x)) (contentsFault s n x) r) ≡ v)
     → firstBad s n b m ≡ v
 unfolding firstBad
 stops s n b zero x v h k f bad = absurd (omega arith)
@@ -92,13 +150,13 @@ stops s n b (suc m) x v h k f bad =
 all-names : (s : List ℕ) (n : ℕ) (v : Verdict) → Named s n 0 n v → firstBad s n 0 n ≡ v
 all-names s n v (all-good f) = all-named s n 0 n (λ j p q. f j p (omega arith))
 all-names s n v (bad-check x p q f c) = stops s n 0 n x (verdict checkWrong x) p (omega arith) f (λ r. rw c)
-all-names s n v (bad-contents x p q f c d) = stops s n 0 n x (verdict contentsWrong x) p (omega arith) f (λ r. rw (c, d))
+all-names s n v (bad-contents x p q f c d o) = stops s n 0 n x v p (omega arith) f (λ r. rw (c, d) (one-fault s n x _ v (departs s n x) o))
 
 names-sheet : (s : List ℕ) (v : Verdict) → NamedSheet s v → verdictOf s ≡ v
 names-sheet s v (bad-length e) = wrong-length s e
 names-sheet s v (blocks e b) = right-length s e ∙ all-names s (blocksIn (length s)) v b
 
--- 18, 19 and 20 'given exactly when', with the block: a verdict is that of reading exactly when it may be named
+-- 18, 19, 20 and 24 'given exactly when', with the block and the event's position: a verdict is that of reading exactly when it may be named
 pub verdict-iff : (s : List ℕ) (v : Verdict) → (verdictOf s ≡ v) ↔ NamedSheet s v
 verdict-iff s v = (λ e. subst (NamedSheet s) e (named-sheet s), names-sheet s v)
 
@@ -106,7 +164,8 @@ none-named : (s : List ℕ) (v : Verdict) → NamedSheet s v → v .number ≡ 0
 none-named s v (bad-length e) z = absurd (omega arith)
 none-named s v (blocks e (all-good f)) z = (e, f)
 none-named s v (blocks e (bad-check x a y f c)) z = absurd (omega arith)
-none-named s v (blocks e (bad-contents x a y f c d)) z = absurd (omega arith)
+none-named s v (blocks e (bad-contents x a y f c d (upper p u))) z = absurd (omega arith)
+none-named s v (blocks e (bad-contents x a y f c d (other u))) z = absurd (omega arith)
 
 -- a sheet is accepted exactly when its length is right and all its blocks are good
 pub good-blocks : (s : List ℕ) → (verdictOf s .number ≡ 0) ↔ ((lengthOk (length s) ≡ true) × AllGood s (blocksIn (length s)) 0 (blocksIn (length s)))
@@ -114,3 +173,60 @@ good-blocks s = (
   none-named s (verdictOf s) (named-sheet s),
   λ g. ap (λ (v : Verdict). v .number) (names-sheet s (verdict 0 0) (blocks (g .0) (all-good (g .1)))),
 )
+
+-- ---- 02, item 6: by the number
+module _ (s : List ℕ) where
+  abbrev n : ℕ
+  n = blocksIn (length s)
+
+  -- the first bad block of the sheet is x, and it checks
+  pub record FirstBad (x : ℕ) : Type 0 where
+    pub right : lengthOk (length s) ≡ true
+    pub inside : x < n
+    pub before : AllGood s n 0 x
+    pub checked : checks s x ≡ true
+
+  -- an event with upper bits departs from the layout
+  upper-wrong : (x p : ℕ) → UpperAt s n x p → contentsOk s n x ≡ false
+  unfolding eventsOk
+  upper-wrong x p u =
+      let m = word s x 0 in
+      let short : eqb (firstUpper s x 0 m) m ≡ false = rw (upper-first s n x p u) (ne-eqb p m (λ q. omega (arith, u .held))) in
+      rw (ne-eqb x 0 (λ q. omega (arith, u .later)), u .count, short)
+
+  twenty-four : (v : Verdict) → NamedSheet s v → v .number ≡ upperBits → FirstBad (v .block) × UpperAt s n (v .block) (v .position)
+  twenty-four v (bad-length e) z = absurd (omega arith)
+  twenty-four v (blocks e (all-good f)) z = absurd (omega arith)
+  twenty-four v (blocks e (bad-check x a y f c)) z = absurd (omega arith)
+  twenty-four v (blocks e (bad-contents x a y f c d (upper p u))) z = (record { right = e; inside = y; before = f; checked = c }, u)
+  twenty-four v (blocks e (bad-contents x a y f c d (other u))) z = absurd (omega arith)
+
+  -- 24 with block x and position p exactly when all blocks before x are good, its check and its count are right, the event words before p have no upper bits and the one at p has
+  pub upper-iff : (x p : ℕ) → (verdictOf s ≡ verdictAt upperBits x p) ↔ (FirstBad x × UpperAt s n x p)
+  upper-iff x p = (
+    λ e. twenty-four (verdictAt upperBits x p) (verdict-iff s (verdictAt upperBits x p) .0 e) refl,
+    λ r.
+        let f = r .0 in
+        verdict-iff s (verdictAt upperBits x p) .1 (blocks (f .right) (bad-contents x (omega arith) (f .inside) (f .before) (f .checked) (upper-wrong x p (r .1)) (upper p (r .1)))),
+  )
+
+  departing : (v : Verdict) → NamedSheet s v → (v .number ≡ contentsWrong) ⊎ (v .number ≡ upperBits) → FirstBad (v .block) × (contentsOk s n (v .block) ≡ false)
+  departing v (bad-length e) z = absurd (⊎-elim (λ q. omega arith) (λ q. omega arith) z)
+  departing v (blocks e (all-good f)) z = absurd (⊎-elim (λ q. omega arith) (λ q. omega arith) z)
+  departing v (blocks e (bad-check x a y f c)) z = absurd (⊎-elim (λ q. omega arith) (λ q. omega arith) z)
+  departing v (blocks e (bad-contents x a y f c d (upper p u))) z = (record { right = e; inside = y; before = f; checked = c }, d)
+  departing v (blocks e (bad-contents x a y f c d (other u))) z = (record { right = e; inside = y; before = f; checked = c }, d)
+
+  either : (x : ℕ) (v : Verdict) → Departs s n x v → (v .block ≡ x) × ((v .number ≡ contentsWrong) ⊎ (v .number ≡ upperBits))
+  either x v (upper p u) = (refl, inr refl)
+  either x v (other u) = (refl, inl refl)
+
+  -- 20 and 24 together are exactly the contents that depart from the layout
+  pub departs-iff : (x : ℕ) → ((verdictOf s .block ≡ x) × ((verdictOf s .number ≡ contentsWrong) ⊎ (verdictOf s .number ≡ upperBits))) ↔ (FirstBad x × (contentsOk s n x ≡ false))
+  departs-iff x = (
+    λ r. rw (← r .0) (departing (verdictOf s) (named-sheet s) (r .1)),
+    λ r.
+        let f = r .0 in
+        rw (names-sheet s (contentsFault s n x) (blocks (f .right) (bad-contents x (omega arith) (f .inside) (f .before) (f .checked) (r .1) (departs s n x))))
+        (either x (contentsFault s n x) (departs s n x)),
+  )

@@ -17,7 +17,7 @@ use Rattle.relay.proofs.Truth.{facts, split, least-or-below}
 use Rattle.sheet.specs.Entry.{numberOf, postOf, answerOf, inFields}
 use Rattle.sheet.specs.Given.{outOfField, writeReasons}
 use Rattle.sheet.specs.Layout.{roomShort}
-use Rattle.sheet.specs.Reading.{verdict, verdictOf, accepted, decode, roomFor, readOf}
+use Rattle.sheet.specs.Reading.{verdictAt, verdict, verdictOf, accepted, decode, roomFor, readOf}
 use Rattle.sheet.specs.Sheet.{Sheet}
 use Rattle.sheet.specs.Writing.{allInFields, bytesFor, writeNumber}
 use Rattle.sheet.specs.declared.Verdict.{Verdict}
@@ -51,15 +51,15 @@ write-given t m k = first-given k (writeReasons t m) refl (write-first t m)
 -- ---- reading into room for m kinds and n events
 -- what a verdict may be
 pub data NamedRead (s : List ℕ) (m n : ℕ) : Verdict → Type 0 where
-  -- 18, 19 and 20
+  -- 18, 19, 20 and 24
   unread : {v : Verdict} → (v .number ≡ 0 → ⊥) → NamedSheet s v → NamedRead s m n v
   -- 'room too short for them gives 21, last'
   short : verdictOf s .number ≡ 0 → (m < length (decode s .kinds)) ⊎ (n < length (decode s .events)) → NamedRead s m n (verdict roomShort 0)
   fits : verdictOf s .number ≡ 0 → length (decode s .kinds) ≤ m → length (decode s .events) ≤ n → NamedRead s m n (verdict 0 0)
 
--- the number and block that reading returns
+-- the number, block and position that reading returns
 abbrev pub readVerdict : List ℕ → ℕ → ℕ → Verdict
-readVerdict s m n = verdict (readOf s m n .number) (readOf s m n .block)
+readVerdict s m n = verdictAt (readOf s m n .number) (readOf s m n .block) (readOf s m n .position)
 
 -- the room by its two tests
 room-short : (t : Sheet) (m n : ℕ) → roomFor t m n ≡ false → (m < length (t .kinds)) ⊎ (n < length (t .events))
@@ -91,6 +91,6 @@ names-read s m n v (unread h b) = let e = verdict-iff s v .1 b in rw (e, ne-eqb 
 names-read s m n v (short z h) = rw (eq-eqb (verdictOf s .number) 0 z, short-room (decode s) m n h)
 names-read s m n v (fits z h k) = rw (eq-eqb (verdictOf s .number) 0 z, le-leb (length (decode s .kinds)) m h, le-leb (length (decode s .events)) n k)
 
--- 18 to 21 and 0 'given exactly when', with the block
+-- 18 to 21, 24 and 0 'given exactly when', with the block and the event's position
 pub read-iff : (s : List ℕ) (m n : ℕ) (v : Verdict) → (readVerdict s m n ≡ v) ↔ NamedRead s m n v
 read-iff s m n v = (λ e. subst (NamedRead s m n) e (read-named s m n), names-read s m n v)

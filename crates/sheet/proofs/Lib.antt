@@ -25,4 +25,5 @@ pub mod Tabs
 pub mod TripRead
 pub mod TripWritten
 pub mod Trips
+pub mod Upper
 pub mod Writable

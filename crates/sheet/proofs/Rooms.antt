@@ -1,6 +1,6 @@
 -- Reading into lent room, by its outcomes: a refusal leaves both rooms, and a good sheet with room enough hands out its kinds and events.
 -- Assumes nothing.
-use Prim.Native.Nat.{ℕ, _+_, _-_, _*_, _/_, _≤_, _<_}
+use Prim.Native.Nat.{ℕ, _+_, _-_, _*_, _/_, _%_, _≤_, _<_}
 use mathlib.Core.Path.{_≡_, refl, sym, ap, _∙_}
 use mathlib.Core.Logic.{⊎-elim}
 use mathlib.Core.Bool.{Bool, true, false, _&&_}
@@ -11,16 +11,18 @@ use lib.Dec.{eqb, leb}
 use lib.ListN.{length, drop}
 use Rattle.relay.proofs.Truth.{split}
 use Rattle.relay.specs.Kinds.{tableOk}
-use Rattle.sheet.specs.Layout.{mostEntries, roomShort}
+use Rattle.sheet.specs.Layout.{mostEntries, perBlock, roomShort}
 use Rattle.sheet.specs.Words.{tab}
 use Rattle.sheet.specs.Check.{word}
 use Rattle.sheet.specs.Sheet.{Sheet}
-use Rattle.sheet.specs.Reading.{kindsIn, blocksIn, verdict, verdictOf, entriesIn, entryIn, decode, refused, found, roomFor, readOf, handed, Reads}
+use Rattle.sheet.specs.Reading.{kindsIn, blocksIn, verdict, verdictOf, entriesIn, entryIn, NoUpper, decode, refused, found, roomFor, readOf, handed, Reads}
 use Rattle.sheet.specs.Writing.{bytesFor}
 use Rattle.sheet.specs.declared.Verdict.{Verdict}
 use Rattle.sheet.specs.declared.Found.{Found}
 use Rattle.sheet.proofs.Accepts.{accepted-good}
 use Rattle.sheet.proofs.Good.{Good}
+use Rattle.sheet.proofs.Upper.{zero-upper}
+use Rattle.relay.proofs.Truth.{equal-or-not}
 use Rattle.sheet.proofs.Table.{table-few}
 use Rattle.sheet.proofs.Tabs.{length-tab}
 
@@ -57,6 +59,29 @@ module _ (s : List ℕ) (z : verdictOf s .number ≡ 0) where
 
   pub entries-within : (entriesIn s + 59) / 60 * 512 + 512 ≤ length s
   entries-within = entries-by (leb n 1) refl .1
+
+  -- event i stands in a block, at a place up to the block's number
+  placed-by : (b : Bool) → leb n 1 ≡ b → (i : ℕ) → i < entriesIn s → (1 + i / 60 < n) × (i % 60 < word s (1 + i / 60) 0)
+  unfolding entriesIn
+  placed-by true e i h = let k : i < 0 = rw e at h in absurd (omega arith)
+  placed-by false e i h =
+      let k : i < (n - 2) * 60 + word s (n - 1) 0 = rw e at h in
+      let o : 1 < n = leb-false n 1 e in
+      let m = good .many (n - 1) (omega arith) (omega arith) in (
+        omega arith,
+        equal-or-not (1 + i / 60) (n - 1)
+            (λ (l : 1 + i / 60 ≡ n - 1). rw l (omega arith))
+            (λ l. rw (good .full (1 + i / 60) (omega arith) (omega arith)) (omega arith)),
+      )
+
+  pub placed : (i : ℕ) → i < entriesIn s → (1 + i / perBlock < n) × (i % perBlock < word s (1 + i / perBlock) 0)
+  placed i h = placed-by (leb n 1) refl i h
+
+  -- and its word has no upper bits
+  pub no-upper : NoUpper s (entriesIn s)
+  no-upper i h =
+      let p = placed i h in
+      zero-upper _ (good .fields (1 + i / 60) (omega arith) (p .0) (i % 60) (p .1))
 
   -- its events fill its blocks
   blocks-by : (b : Bool) → leb n 1 ≡ b → bytesFor (entriesIn s) ≡ length s
@@ -101,7 +126,7 @@ module _ (s : List ℕ) where
   unfolding decode
   stamp-is = refl
 
-  pub found-is : found (decode s) ≡ record { number = 0; block = 0; posts = word s 0 1; stamp = word s 0 2; events = entriesIn s }
+  pub found-is : found (decode s) ≡ record { number = 0; block = 0; position = 0; posts = word s 0 1; stamp = word s 0 2; events = entriesIn s }
   found-is = rw (kinds-long, events-long, stamp-is)
 
   -- what the loops store is what is handed out

@@ -6,6 +6,10 @@ use mathlib.Core.Bool.{Bool, _&&_}
 use mathlib.Core.List.{List, [], _∷_}
 use lib.Dec.{ltb}
 use lib.ListN.{getD}
+use Rattle.relay.specs.Choice.{pick}
+use Rattle.sheet.specs.Layout.{upperBits}
+use Rattle.sheet.specs.declared.entry.Unpacked.{Unpacked}
+use Rattle.sheet.specs.declared.entry.Unpacked.the-variants.{Fields, Upper}
 
 -- the four numbers of an event, in this order
 abbrev pub entry : ℕ → ℕ → ℕ → ℕ → List ℕ
@@ -41,6 +45,18 @@ answerIn w = w / 2048 % 32
 unfoldable pub upperZero : ℕ → Bool
 upperZero w = ltb w 65536
 
+-- ---- unpacking. 02, item 6: 'Unpacking an event word should say when its upper sixteen bits are not zero'
+-- 01: 'If an answer is an enum, a definition sets out this paper's number and values for each of the enum's cases.'
+-- 0 with the event's number, post and answer; or 24 and nothing else
+abbrev pub valuesOf : Unpacked → List ℕ
+valuesOf (Fields number post answer) = 0 ∷ number ∷ post ∷ answer ∷ []
+valuesOf Upper = upperBits ∷ []
+
+-- of the event word w
+unfoldable pub unpacked : ℕ → List ℕ
+unpacked w = pick (upperZero w) (0 ∷ numberIn w ∷ postIn w ∷ answerIn w ∷ []) (upperBits ∷ [])
+
+-- ---- writing
 -- every field of an event to write is in its field; a stamp of any value is
 unfoldable pub inFields : List ℕ → Bool
 inFields e = ltb (numberOf e) 32 && (ltb (postOf e) 64 && ltb (answerOf e) 32)

@@ -45,3 +45,7 @@ contentsWrong = 20
 
 abbrev pub roomShort : ℕ
 roomShort = 21
+
+-- 02, item 6: '24 for those bits', the upper sixteen of an event word
+abbrev pub upperBits : ℕ
+upperBits = 24

@@ -1,6 +1,6 @@
 -- Reading a sheet. 01, 'The event sheet': 'Reading tests the length (18), then each block in turn, check before contents, and stops at once at the first bad block, naming it.'
 -- Assumes nothing.
-use Prim.Native.Nat.{ℕ, zero, suc, _+_, _-_, _*_, _/_, _%_}
+use Prim.Native.Nat.{ℕ, zero, suc, _+_, _-_, _*_, _/_, _%_, _<_}
 use mathlib.Core.Bool.{Bool, true, false, not, _&&_, _||_}
 use mathlib.Core.Path.{_≡_}
 use mathlib.Core.List.{List, [], _∷_, _++_}
@@ -8,7 +8,7 @@ use lib.Dec.{eqb, ltb, leb}
 use lib.ListN.{length, drop}
 use Rattle.relay.specs.Choice.{pick}
 use Rattle.relay.specs.Kinds.{tableOk}
-use Rattle.sheet.specs.Layout.{blockBytes, mostBlocks, checkAt, perBlock, lengthWrong, checkWrong, contentsWrong, roomShort}
+use Rattle.sheet.specs.Layout.{blockBytes, mostBlocks, checkAt, perBlock, lengthWrong, checkWrong, contentsWrong, roomShort, upperBits}
 use Rattle.sheet.specs.Words.{tab}
 use Rattle.sheet.specs.Check.{word, checks}
 use Rattle.sheet.specs.Entry.{entryOf, upperZero}
@@ -16,7 +16,7 @@ use Rattle.sheet.specs.Sheet.{Sheet}
 use Rattle.sheet.specs.declared.Verdict.{Verdict}
 use Rattle.sheet.specs.declared.Found.{Found}
 
--- ---- contents: 'wrong (20) exactly when they depart from this layout'
+-- ---- contents: 'wrong (20) exactly when they depart from this layout'; since 02, item 6: 20 or 24
 -- the words from k up to, not including, word 127 of block b are zero: n of them
 unfoldable pub zeros : List ℕ → ℕ → ℕ → ℕ → Bool
 zeros s b k zero = true
@@ -31,10 +31,14 @@ unfoldable pub headOk : List ℕ → Bool
 headOk s =
     (eqb (word s 0 0) 1 && tableOk (kindsIn s)) && zeros s 0 (3 + word s 0 1) (checkAt - (3 + word s 0 1))
 
--- 'bits 16 to 31 are zero', of n events of block b from event j on
-unfoldable pub entriesOk : List ℕ → ℕ → ℕ → ℕ → Bool
-entriesOk s b j zero = true
-entriesOk s b j (suc n) = upperZero (word s b (1 + j * 2)) && entriesOk s b (j + 1) n
+-- 'the event's position in the block, from 0': of n events of block b from event j on, the first whose word has upper bits; j + n where none has
+unfoldable pub firstUpper : List ℕ → ℕ → ℕ → ℕ → ℕ
+firstUpper s b j zero = j
+firstUpper s b j (suc n) = pick (upperZero (word s b (1 + j * 2))) (firstUpper s b (j + 1) n) j
+
+-- 'bits 16 to 31 are zero', of the n events of block b: none is the first that has upper bits
+abbrev pub entriesOk : List ℕ → ℕ → ℕ → Bool
+entriesOk s b n = eqb (firstUpper s b 0 n) n
 
 -- 'the number m of events, 1 to 60'; 'All but the last of these hold 60.'
 unfoldable pub eventsFit : ℕ → Bool → Bool
@@ -44,22 +48,38 @@ eventsFit m last = (leb 1 m && leb m perBlock) && (last || eqb m perBlock)
 unfoldable pub eventsOk : List ℕ → ℕ → Bool → Bool
 eventsOk s b last =
     eventsFit (word s b 0) last
-    && (entriesOk s b 0 (word s b 0) && zeros s b (1 + word s b 0 * 2) (checkAt - (1 + word s b 0 * 2)))
+    && (entriesOk s b (word s b 0) && zeros s b (1 + word s b 0 * 2) (checkAt - (1 + word s b 0 * 2)))
 
 -- block b of a sheet of n blocks
 abbrev pub contentsOk : List ℕ → ℕ → ℕ → Bool
 contentsOk s n b = pick (eqb b 0) (headOk s) (eventsOk s b (eqb (b + 1) n))
 
 -- ---- the first bad block
-abbrev pub verdict : ℕ → ℕ → Verdict
-verdict number block = record { number = number; block = block }
+-- a refusal, its block and the event's position in it
+abbrev pub verdictAt : ℕ → ℕ → ℕ → Verdict
+verdictAt number block position = record { number = number; block = block; position = position }
 
--- m blocks from block b on: 19 or 20 with the first bad one, or 0 and 0. Check before contents
+-- one that names no event: its position is 0
+abbrev pub verdict : ℕ → ℕ → Verdict
+verdict number block = verdictAt number block 0
+
+-- what the contents of block b of n are refused with, where they depart from the layout: the first of these that holds
+-- 02, item 6: 'Refusals: 24 for those bits, after 20 for the count m and before 20 for words that should be zero.'
+unfoldable pub contentsFault : List ℕ → ℕ → ℕ → Verdict
+contentsFault s n b =
+    -- anything in block 0; the number m of a later one
+    pick (eqb b 0 || not (eventsFit (word s b 0) (eqb (b + 1) n))) (verdict contentsWrong b)
+    -- the first event word with upper bits
+    (pick (not (entriesOk s b (word s b 0))) (verdictAt upperBits b (firstUpper s b 0 (word s b 0)))
+    -- words that should be zero
+    (verdict contentsWrong b))
+
+-- m blocks from block b on: 19, 20 or 24 with the first bad one, or 0 and 0. Check before contents
 unfoldable pub firstBad : List ℕ → ℕ → ℕ → ℕ → Verdict
 firstBad s n b zero = verdict 0 0
 firstBad s n b (suc m) =
     pick (not (checks s b)) (verdict checkWrong b)
-    (pick (not (contentsOk s n b)) (verdict contentsWrong b)
+    (pick (not (contentsOk s n b)) (contentsFault s n b)
     (firstBad s n (b + 1) m))
 
 -- 'A sheet is 1 to 64 blocks of 512 bytes'
@@ -91,16 +111,21 @@ abbrev pub entryIn : List ℕ → ℕ → List ℕ
 entryIn s i =
     entryOf (word s (1 + i / perBlock) (1 + i % perBlock * 2)) (word s (1 + i / perBlock) (2 + i % perBlock * 2))
 
+-- the words of the first m events have no upper bits
+abbrev pub NoUpper : List ℕ → ℕ → Type 0
+NoUpper s m = (i : ℕ) → i < m → upperZero (word s (1 + i / perBlock) (1 + i % perBlock * 2)) ≡ true
+
 unfoldable pub decode : List ℕ → Sheet
 decode s = record { stamp = word s 0 2; kinds = kindsIn s; events = tab (entryIn s) (entriesIn s) }
 
 -- ---- reading into lent room, for kinds and for events
--- what a refusal returns: 'its number and block (0 for 18 and 21), nothing else'
+-- what a refusal returns: 'its number and block (0 for 18 and 21), nothing else', and the event's position
 abbrev pub refused : Verdict → Found
-refused v = record { number = v .number; block = v .block; posts = 0; stamp = 0; events = 0 }
+refused v = record { number = v .number; block = v .block; position = v .position; posts = 0; stamp = 0; events = 0 }
 
 abbrev pub found : Sheet → Found
-found t = record { number = 0; block = 0; posts = length (t .kinds); stamp = t .stamp; events = length (t .events) }
+found t =
+    record { number = 0; block = 0; position = 0; posts = length (t .kinds); stamp = t .stamp; events = length (t .events) }
 
 -- both rooms are long enough
 unfoldable pub roomFor : Sheet → ℕ → ℕ → Bool

@@ -8,12 +8,14 @@ ghost use Rattle.sheet.specs.Shape.{shapeOf};
 ghost use Rattle.sheet.specs.Layout.{blockBytes, mostBlocks};
 use crate::Verdict;
 use crate::entry;
+use crate::entry::Unpacked;
 use crate::layout::BLOCK_BYTES;
 use crate::layout::CHECK_AT;
 use crate::layout::CHECK_WRONG;
 use crate::layout::CONTENTS_WRONG;
 use crate::layout::MOST_BYTES;
 use crate::layout::PER_BLOCK;
+use crate::layout::UPPER_BITS;
 use crate::words;
 
 // What a block must hold before its words are looked at one by one: how many events, and how many words before the zeros. `ok` is false where it departs from the layout.
@@ -96,7 +98,7 @@ pub fn events_fit(m: usize, last: bool) -> bool
     (1 <= m) & (m <= PER_BLOCK) & (last | (m == PER_BLOCK))
 }
 
-// The first bad block of the `n` blocks of `s`, with 19 or 20; check before contents. 0 and 0 where all are good.
+// The first bad block of the `n` blocks of `s`, with 19, 20 or 24; check before contents. 0 and 0 where all are good.
 pub fn first_bad(s: &[u8], n: u32) -> Verdict
     requires { ⌜ (n ≤ mostBlocks) × (n * blockBytes ≤ length (now s)) ⌝ }
     ensures { λ r. ⌜ r ≡ firstBad (now (s .entry)) n 0 n ⌝ }
@@ -107,6 +109,7 @@ pub fn first_bad(s: &[u8], n: u32) -> Verdict
             break 'blocks Verdict {
                 number: 0,
                 block: 0,
+                position: 0,
             };
         }
         let at = b as usize * BLOCK_BYTES;
@@ -114,6 +117,7 @@ pub fn first_bad(s: &[u8], n: u32) -> Verdict
             break 'blocks Verdict {
                 number: CHECK_WRONG,
                 block: b,
+                position: 0,
             };
         }
         let shape = shape_of(s, n, b);
@@ -121,17 +125,20 @@ pub fn first_bad(s: &[u8], n: u32) -> Verdict
             break 'blocks Verdict {
                 number: CONTENTS_WRONG,
                 block: b,
+                position: 0,
             };
         }
         let events = shape.events;
         let mut j: usize = 0;
         while j < events {
-            if !entry::upper_zero(words::get_word(s, at + (1 + j * 2) * 4)) {
+            let Unpacked::Fields(_, _, _) = entry::unpack(words::get_word(s, at + (1 + j * 2) * 4))
+            else {
                 break 'blocks Verdict {
-                    number: CONTENTS_WRONG,
+                    number: UPPER_BITS,
                     block: b,
+                    position: j as u32,
                 };
-            }
+            };
             j += 1;
         }
         let mut k = shape.used;
@@ -140,6 +147,7 @@ pub fn first_bad(s: &[u8], n: u32) -> Verdict
                 break 'blocks Verdict {
                     number: CONTENTS_WRONG,
                     block: b,
+                    position: 0,
                 };
             }
             k += 1;

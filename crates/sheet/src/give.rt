@@ -5,9 +5,10 @@ ghost use mathlib.Core.List.{_++_};
 ghost use lib.ListN.{length, drop};
 ghost use Rattle.sheet.specs.Words.{tab};
 ghost use Rattle.sheet.specs.Check.{word};
-ghost use Rattle.sheet.specs.Reading.{entriesIn, entryIn};
+ghost use Rattle.sheet.specs.Reading.{entriesIn, entryIn, NoUpper};
 ghost use Rattle.sheet.specs.Layout.{blockBytes, mostBlocks, perBlock, mostEntries};
 use crate::entry;
+use crate::entry::Unpacked;
 use crate::layout::BLOCK_BYTES;
 use crate::layout::PER_BLOCK;
 use crate::words;
@@ -37,22 +38,19 @@ pub fn kinds(s: &[u8], n: usize, room: &mut [u32])
     }
 }
 
-// The first `m` events, to the front of `room`.
+// The first `m` events, whose words have no upper bits, to the front of `room`.
 pub fn events(s: &[u8], m: usize, room: &mut [[u32; 4]])
     requires { ⌜ (m ≤ mostEntries) × ((m + (perBlock - 1)) / perBlock * blockBytes + blockBytes ≤ length (now s)) × (m ≤ length (now room)) ⌝ }
+    requires { ⌜ NoUpper (now s) m ⌝ }
     ensures { λ _. ⌜ now (room .exit) ≡ tab (entryIn (now (s .entry))) m ++ drop m (now (room .entry)) ⌝ }
 {
     let mut i: usize = 0;
     while i < m {
         let at = (1 + i / PER_BLOCK) * BLOCK_BYTES + (1 + i % PER_BLOCK * 2) * 4;
-        let w = words::get_word(s, at);
-        let t = words::get_word(s, at + 4);
-        room[i] = [
-            entry::number_in(w),
-            entry::post_in(w),
-            entry::answer_in(w),
-            t,
-        ];
+        let Unpacked::Fields(number, post, answer) = entry::unpack(words::get_word(s, at)) else {
+            return;
+        };
+        room[i] = [number, post, answer, words::get_word(s, at + 4)];
         i += 1;
     }
 }

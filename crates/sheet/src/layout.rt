@@ -33,3 +33,6 @@ pub const CHECK_WRONG: u32 = 19;
 pub const CONTENTS_WRONG: u32 = 20;
 
 pub const ROOM_SHORT: u32 = 21;
+
+// 02, item 6: the upper sixteen bits of an event word are not zero.
+pub const UPPER_BITS: u32 = 24;

@@ -3,7 +3,7 @@ ghost use mathlib.Core.Path.{_≡_};
 ghost use lib.ListN.{length};
 ghost use Rattle.sheet.specs.Writing.{Writes};
 ghost use Rattle.sheet.specs.Check.{checksAlone};
-ghost use Rattle.sheet.specs.Reading.{verdictOf, refused, verdict, Reads};
+ghost use Rattle.sheet.specs.Reading.{verdictOf, refused, verdictAt, Reads};
 
 mod blocks;
 mod entry;
@@ -19,18 +19,20 @@ use layout::MOST_ENTRIES;
 use layout::PER_BLOCK;
 use layout::ROOM_SHORT;
 
-// A refusal of reading, with its block, or 0 and 0.
+// A refusal of reading, its block, and for 24 the event's position in that block; or zeros.
 #[repr(C)]
 pub struct Verdict {
     pub number: u32,
     pub block: u32,
+    pub position: u32,
 }
 
-// What reading returns: the number and block, and of a good sheet how many posts it has, its start stamp and how many events.
+// What reading returns: the number, block and position, and of a good sheet how many posts it has, its start stamp and how many events.
 #[repr(C)]
 pub struct Found {
     pub number: u32,
     pub block: u32,
+    pub position: u32,
     pub posts: u32,
     pub stamp: u32,
     pub events: u32,
@@ -46,7 +48,7 @@ pub fn check(s: &[u8], number: u32) -> bool
     words::checks_as(s, 0, number)
 }
 
-// Tests a sheet: 0 and 0, or the refusal with the first bad block.
+// Tests a sheet: zeros, or the refusal with the first bad block and the event's position in it.
 pub fn test(s: &[u8]) -> Verdict
     ensures { λ r. ⌜ r ≡ verdictOf (now (s .entry)) ⌝ }
 {
@@ -55,18 +57,20 @@ pub fn test(s: &[u8]) -> Verdict
         return Verdict {
             number: LENGTH_WRONG,
             block: 0,
+            position: 0,
         };
     }
     blocks::first_bad(s, (n / BLOCK_BYTES) as u32)
 }
 
 // What a refusal of reading returns.
-pub fn refuse(number: u32, block: u32) -> Found
-    ensures { λ r. ⌜ r ≡ refused (verdict number block) ⌝ }
+pub fn refuse(number: u32, block: u32, position: u32) -> Found
+    ensures { λ r. ⌜ r ≡ refused (verdictAt number block position) ⌝ }
 {
     Found {
         number: number,
         block: block,
+        position: position,
         posts: 0,
         stamp: 0,
         events: 0,
@@ -80,21 +84,22 @@ pub fn read(s: &[u8], kinds: &mut [u32], events: &mut [[u32; 4]]) -> Found
     let v = test(s);
     let number = v.number;
     if number != 0 {
-        return refuse(number, v.block);
+        return refuse(number, v.block, v.position);
     }
     let n = words::get_word(s, 4) as usize;
     let m = give::entries_in(s);
     if kinds.len() < n {
-        return refuse(ROOM_SHORT, 0);
+        return refuse(ROOM_SHORT, 0, 0);
     }
     if events.len() < m {
-        return refuse(ROOM_SHORT, 0);
+        return refuse(ROOM_SHORT, 0, 0);
     }
     give::kinds(s, n, kinds);
     give::events(s, m, events);
     Found {
         number: 0,
         block: 0,
+        position: 0,
         posts: n as u32,
         stamp: words::get_word(s, 8),
         events: m as u32,

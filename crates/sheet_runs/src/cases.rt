@@ -23,11 +23,12 @@ fn word_at(s: &[u8], at: usize) -> u64 {
     wide(s[at]) + wide(s[at + 1]) * 256 + wide(s[at + 2]) * 65536 + wide(s[at + 3]) * 16777216
 }
 
-// What testing says: number and block.
+// What testing says: number, block and position.
 fn tested(said: bool, s: &[u8]) -> bool {
     let v = sheet::test(s);
     let said = say::number(said, v.number);
     let said = say::number(said, v.block);
+    let said = say::number(said, v.position);
     say::end(said)
 }
 
@@ -177,4 +178,23 @@ pub fn damaged(said: bool) -> bool {
     let said = say::end(said);
     let said = say::word(said, b"mended");
     tested(said, &out[..32768])
+}
+
+// Bit 16 of two event words of block 2 up, and bit 16 of their stamps down, so that the block adds up as before: 24 with the block and the first of the two, then with the other.
+pub fn upper(said: bool) -> bool {
+    let kinds = [0u32, 1];
+    let events = [[1u32, 0, 31, 66536]; 120];
+    let mut out = [0u8; 1536];
+    sheet::write(&kinds, 0, &events, &mut out);
+    // events 7 and 9 of block 2: their words at 1084 and 1100
+    out[1086] = 1;
+    out[1090] = 0;
+    out[1102] = 1;
+    out[1106] = 0;
+    let said = say::word(said, b"upper bits");
+    let said = tested(said, &out[..1536]);
+    out[1086] = 0;
+    out[1090] = 1;
+    let said = say::word(said, b"of one event");
+    tested(said, &out[..1536])
 }

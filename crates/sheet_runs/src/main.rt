@@ -7,5 +7,6 @@ fn main() {
     let said = cases::lengths(said);
     let said = cases::rooms(said);
     let said = cases::full(said);
-    stream::tell_unwritten(cases::damaged(said));
+    let said = cases::damaged(said);
+    stream::tell_unwritten(cases::upper(said));
 }

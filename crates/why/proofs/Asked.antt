@@ -34,7 +34,7 @@ module _ (t : Sheet) (k : ℕ) where
 
 -- ---- the outcomes
 module _ (s : List ℕ) (k : ℕ) where
-  pub since-unread : accepted s ≡ false → since (verdictOf s .number) (verdictOf s .block) 0 ≡ sinceOf s k
+  pub since-unread : accepted s ≡ false → since (verdictOf s .number) (verdictOf s .block) (verdictOf s .position) ≡ sinceOf s k
   unfolding sinceOf
   since-unread h = rw h
 

@@ -59,7 +59,7 @@ MadeIt s k j = Made (decode s) (answerOf (eventAt (decode s) k)) (postOf (eventA
 
 pub data NamedSince (s : List ℕ) (k : ℕ) : Since → Type 0 where
   -- 'after those of reading'
-  unread : {v : Verdict} → (v .number ≡ 0 → ⊥) → NamedSheet s v → NamedSince s k (since (v .number) (v .block) 0)
+  unread : {v : Verdict} → (v .number ≡ 0 → ⊥) → NamedSheet s v → NamedSince s k (since (v .number) (v .block) (v .position))
   -- 29 'when the sheet's answers aren't the ones that working its events gives'
   not-worked : (j : ℕ) → verdictOf s .number ≡ 0 → 1 ≤ j → j ≤ length (decode s .events) → (RightAt (decode s) j → ⊥)
       → NamedSince s k (since 29 0 0)

@@ -76,4 +76,4 @@ sinceIn t k =
 -- 'Refusals: 29, after those of reading'
 unfoldable pub sinceOf : List ℕ → ℕ → Since
 sinceOf s k =
-    pick (not (accepted s)) (since (verdictOf s .number) (verdictOf s .block) 0) (sinceIn (decode s) k)
+    pick (not (accepted s)) (since (verdictOf s .number) (verdictOf s .block) (verdictOf s .position)) (sinceIn (decode s) k)

@@ -15,7 +15,7 @@ use sheet::layout::MOST_ENTRIES;
 // The sheet's answers aren't the ones that working its events gives, or the chosen event has another answer or doesn't exist.
 pub const NO_SUCH_REFUSAL: u32 = 29;
 
-// A refusal with its block and position 0, or 0 and 0 with the position of the event since which it is so; 0 is the start.
+// A refusal with its block and the event's position in that block, as reading gives them; or 0 and 0 with the position in the sheet, from 1, of the event since which it is so; 0 is the start.
 #[repr(C)]
 pub struct Since {
     pub number: u32,
@@ -136,7 +136,7 @@ pub fn since_when(s: &[u8], position: u32) -> Since
     let mut events = [[0u32; 4]; MOST_ENTRIES];
     let found = sheet::read(s, &mut kinds, &mut events);
     if found.number != 0 {
-        return tell(found.number, found.block, 0);
+        return tell(found.number, found.block, found.position);
     }
     let n = found.posts as usize;
     let m = found.events as usize;

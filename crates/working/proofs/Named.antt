@@ -14,7 +14,7 @@ use Rattle.relay.proofs.Truth.{split, least-or-below}
 use Rattle.sheet.proofs.Accepts.{accepted-good}
 use Rattle.sheet.proofs.First.{NamedSheet, verdict-iff}
 use Rattle.sheet.proofs.Good.{Good}
-use Rattle.sheet.proofs.Rooms.{all-events, events-long}
+use Rattle.sheet.proofs.Rooms.{placed, all-events, events-long}
 use Rattle.sheet.proofs.Tabs.{getD-tab}
 use Rattle.sheet.specs.Check.{word}
 use Rattle.sheet.specs.Entry.{answerOf, answerIn}
@@ -49,24 +49,7 @@ module _ (s : List ℕ) (z : verdictOf s .number ≡ 0) where
   good : Good n s
   good = accepted-good s z
 
-  -- event i stands in a block, at a place up to the block's number
-  placed : (i : ℕ) → i < entriesIn s → (1 + i / perBlock < n) × (i % perBlock < word s (1 + i / perBlock) 0)
-  unfolding entriesIn
-  placed i =
-      split (leb n 1)
-      (λ e. rw e (λ h. absurd (omega arith)))
-      (λ e.
-      rw e
-      (λ h.
-      let more : 1 < n = leb-false n 1 e in
-      let many = good .many (n - 1) (omega arith) (omega arith) in (
-        omega arith,
-        least-or-below n (1 + i / perBlock + 1)
-            (λ last. let here : 1 + i / perBlock ≡ n - 1 = omega arith in rw here (omega arith))
-            (λ before. rw (good .full (1 + i / perBlock) (omega arith) before) (omega arith)),
-      )))
-
-  -- and each such place is an event's
+  -- each place of a block up to its number is an event's
   event-at : (b j : ℕ) → 1 ≤ b → b < n → j < word s b 0 → (b - 1) * perBlock + j < entriesIn s
   unfolding entriesIn
   event-at b j h k l =
@@ -109,7 +92,7 @@ module _ (s : List ℕ) (z : verdictOf s .number ≡ 0) where
   -- and its events come before it where it has none
   after : (e : ℕ) → Unanswered s e → (i : ℕ) → i < entriesIn s → 1 + i / perBlock < e → i ≡ first → ⊥
   after e u i h k q =
-      answered-there (decode s .events) (omega (arith, long)) (rw (← q) (answer-at i h ∙ u (1 + i / perBlock) (i % perBlock) (omega arith) k (placed i h .1)))
+      answered-there (decode s .events) (omega (arith, long)) (rw (← q) (answer-at i h ∙ u (1 + i / perBlock) (i % perBlock) (omega arith) k (placed s z i h .1)))
 
 -- ---- what working refuses
 work-named : (s : List ℕ) (m : ℕ) → NamedWork s m (workVerdict s m)
@@ -161,6 +144,6 @@ names-work s m v (answered b j z h k l q u) =
 names-work s m v (short z u h) = rw (eq-eqb (verdictOf s .number) 0 z, none s z u, lt-leb (length s) m h)
 names-work s m v (fits z u h) = rw (eq-eqb (verdictOf s .number) 0 z, none s z u, le-leb (length s) m h)
 
--- 18 to 21 'given exactly when', with the block: a verdict is that of working exactly when it may be named
+-- 18 to 21 and 24 'given exactly when', with the block and the event's position: a verdict is that of working exactly when it may be named
 pub work-iff : (s : List ℕ) (m : ℕ) (v : Verdict) → (workVerdict s m ≡ v) ↔ NamedWork s m v
 work-iff s m v = (λ e. subst (NamedWork s m) e (work-named s m), names-work s m v)

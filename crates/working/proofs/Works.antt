@@ -19,27 +19,23 @@ use Rattle.sheet.proofs.Packing.{unpacked-fields}
 use Rattle.sheet.proofs.Tabs.{getD-tab}
 use Rattle.sheet.specs.Entry.{numberOf, postOf, answerOf, stampOf, inFields}
 use Rattle.sheet.specs.Layout.{perBlock, contentsWrong, roomShort}
-use Rattle.sheet.specs.Reading.{accepted, verdict, verdictOf, entriesIn, entryIn, decode, refused}
+use Rattle.sheet.specs.Reading.{accepted, verdict, verdictOf, entriesIn, entryIn, decode}
 use Rattle.sheet.specs.Sheet.{Sheet, encode}
 use Rattle.sheet.specs.Writing.{allInFields, bytesFor, writeNumber, written, Writes}
 use Rattle.sheet.specs.declared.Verdict.{Verdict}
 use Rattle.working.specs.Run.{begun, next, run, answeredBy, answered}
-use Rattle.working.specs.Working.{firstAnswered, worked, workVerdict, workOf, workedBytes, Works, ranOf, ranEvents}
+use Rattle.working.specs.Working.{firstAnswered, worked, refused, workVerdict, workOf, workedBytes, Works, ranOf, ranEvents}
 use Rattle.working.specs.declared.Worked.{Worked}
 use Rattle.working.proofs.Steps.{answered-long}
-
--- what a refusal returns
-abbrev pub no : Verdict → Worked
-no v = record { number = v .number; block = v .block; row = rowOf []; head = head 0 0 }
 
 module _ (s : List ℕ) where
   -- ---- the outcomes
   module _ (out : List ℕ) where
-    refuse-with : (v : Verdict) → workVerdict s (length out) ≡ v → (v .number ≡ 0 → ⊥) → Works s (no v) out out
+    refuse-with : (v : Verdict) → workVerdict s (length out) ≡ v → (v .number ≡ 0 → ⊥) → Works s (refused v) out out
     unfolding workOf workedBytes
     refuse-with v e n = let h : eqb (v .number) 0 ≡ false = ne-eqb (v .number) 0 n in (rw (e, h), rw (e, h))
 
-    pub works-unread : accepted s ≡ false → Works s (no (verdictOf s)) out out
+    pub works-unread : accepted s ≡ false → Works s (refused (verdictOf s)) out out
     unfolding workVerdict
     works-unread h = refuse-with (verdictOf s) (rw h) (eqb-false (verdictOf s .number) 0 h)
 
@@ -47,12 +43,12 @@ module _ (s : List ℕ) where
       read : accepted s ≡ true
       read = eq-eqb (verdictOf s .number) 0 z
 
-      pub works-answered : firstAnswered (decode s .events) < length (decode s .events) → Works s (no (verdict contentsWrong (1 + firstAnswered (decode s .events) / perBlock))) out out
+      pub works-answered : firstAnswered (decode s .events) < length (decode s .events) → Works s (refused (verdict contentsWrong (1 + firstAnswered (decode s .events) / perBlock))) out out
       unfolding workVerdict
       works-answered h = refuse-with _ (rw (read, lt-ltb _ _ h)) (λ e. omega arith)
 
       module _ (fresh : length (decode s .events) ≤ firstAnswered (decode s .events)) where
-        pub works-short : length out < length s → Works s (no (verdict roomShort 0)) out out
+        pub works-short : length out < length s → Works s (refused (verdict roomShort 0)) out out
         unfolding workVerdict
         works-short h = refuse-with _ (rw (read, le-ltb _ _ fresh, lt-leb _ _ h)) (λ e. omega arith)
 
@@ -64,7 +60,7 @@ module _ (s : List ℕ) where
           abbrev b : After
           b = begun (decode s .kinds) (decode s .stamp)
 
-          pub works-worked : Works s (record { number = 0; block = 0; row = rowOf (run b (decode s .events) .line); head = run b (decode s .events) .told .head }) out (encode (worked (decode s)) ++ drop (length s) out)
+          pub works-worked : Works s (record { number = 0; block = 0; position = 0; row = rowOf (run b (decode s .events) .line); head = run b (decode s .events) .told .head }) out (encode (worked (decode s)) ++ drop (length s) out)
           unfolding workOf workedBytes
           works-worked = (rw taken, rw taken)
 

@@ -54,7 +54,7 @@ blank (e ∷ es) = answeredBy e unanswered ∷ blank es
 abbrev pub setBack : Sheet → Sheet
 setBack t = record { stamp = t .stamp; kinds = t .kinds; events = blank (t .events) }
 
--- the refusal with its block, or 0 and 0: as reading, then 20, then 21 for an output of m bytes
+-- the refusal with its block and position, or 0 and 0: as reading, then 20, then 21 for an output of m bytes
 unfoldable pub workVerdict : List ℕ → ℕ → Verdict
 workVerdict s m =
     pick (not (accepted s)) (verdictOf s)
@@ -62,17 +62,22 @@ workVerdict s m =
     (verdict contentsWrong (1 + firstAnswered (decode s .events) / perBlock))
     (pick (not (leb (length s) m)) (verdict roomShort 0) (verdict 0 0)))
 
--- what is returned: of a worked sheet also the row and the head at the end, 'nothing else' of a refusal
+-- what a refusal returns: 'nothing else'
+abbrev pub refused : Verdict → Worked
+refused v = record { number = v .number; block = v .block; position = v .position; row = rowOf []; head = head 0 0 }
+
+-- what is returned: of a worked sheet also the row and the head at the end
 unfoldable pub workOf : List ℕ → ℕ → Worked
 workOf s m =
     pick (eqb (workVerdict s m .number) 0)
     (record {
       number = 0;
       block = 0;
+      position = 0;
       row = rowOf (run (begun (decode s .kinds) (decode s .stamp)) (decode s .events) .line);
       head = run (begun (decode s .kinds) (decode s .stamp)) (decode s .events) .told .head;
     })
-    (record { number = workVerdict s m .number; block = workVerdict s m .block; row = rowOf []; head = head 0 0 })
+    (refused (workVerdict s m))
 
 -- the output afterwards: the worked sheet, and past it what was there; on a refusal as it was
 unfoldable pub workedBytes : List ℕ → List ℕ → List ℕ

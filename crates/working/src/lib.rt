@@ -1,10 +1,8 @@
 // Working a sheet: its events taken one after the other from the fresh line of its table, and the answers written.
 ghost use mathlib.Core.Path.{_≡_};
-ghost use Rattle.row.specs.Row.{rowOf};
-ghost use mathlib.Core.List.{[]};
-ghost use Rattle.relay.specs.Line.{head};
 ghost use Rattle.relay.specs.Valid.{h};
-ghost use Rattle.working.specs.Working.{ranOf, ranEvents, firstAnswered, Works, sectionNumbers};
+ghost use Rattle.sheet.specs.Reading.{verdictAt};
+ghost use Rattle.working.specs.Working.{ranOf, ranEvents, firstAnswered, refused, Works, sectionNumbers};
 use relay::Head;
 use relay::Post;
 use row::Row;
@@ -21,11 +19,12 @@ pub struct Ran {
     pub head: Head,
 }
 
-// What working a sheet returns: a refusal with its block, or 0 and 0 with the row and head at the end.
+// What working a sheet returns: a refusal with its block and the event's position in it, or zeros with the row and head at the end.
 #[repr(C)]
 pub struct Worked {
     pub number: u32,
     pub block: u32,
+    pub position: u32,
     pub row: Row,
     pub head: Head,
 }
@@ -78,14 +77,15 @@ pub fn first_answered(events: &[[u32; 4]]) -> usize
 }
 
 // What a refusal of working returns.
-pub fn refuse(number: u32, block: u32) -> Worked
-    ensures { λ r. ⌜ r ≡ record { number = number; block = block; row = rowOf []; head = head 0 0 } ⌝ }
+pub fn refuse(number: u32, block: u32, position: u32) -> Worked
+    ensures { λ r. ⌜ r ≡ refused (verdictAt number block position) ⌝ }
 {
     let b = line::blank_post();
     let posts = [b; 32];
     Worked {
         number: number,
         block: block,
+        position: position,
         row: Row { posts: posts, n: 0 },
         head: Head { taken: 0, last: 0 },
     }
@@ -99,16 +99,16 @@ pub fn work(s: &[u8], out: &mut [u8]) -> Worked
     let mut events = [[0u32; 4]; MOST_ENTRIES];
     let found = sheet::read(s, &mut kinds, &mut events);
     if found.number != 0 {
-        return refuse(found.number, found.block);
+        return refuse(found.number, found.block, found.position);
     }
     let n = found.posts as usize;
     let m = found.events as usize;
     let i = first_answered(&events[..m]);
     if i < m {
-        return refuse(CONTENTS_WRONG, 1 + (i / PER_BLOCK) as u32);
+        return refuse(CONTENTS_WRONG, 1 + (i / PER_BLOCK) as u32, 0);
     }
     if out.len() < s.len() {
-        return refuse(ROOM_SHORT, 0);
+        return refuse(ROOM_SHORT, 0, 0);
     }
     let ran = run(&kinds[..n], found.stamp, &mut events[..m]);
     sheet::write(&kinds[..n], found.stamp, &events[..m], out);
@@ -117,6 +117,7 @@ pub fn work(s: &[u8], out: &mut [u8]) -> Worked
     Worked {
         number: 0,
         block: 0,
+        position: 0,
         row: row,
         head: head,
     }

@@ -1,27 +1,31 @@
 -- `listing::put_refused` meets its contract: the word, the number, a space, the place and the line feed, each right after what stands.
 -- Assumes nothing.
 use Prim.Native.Nat.{ℕ, _+_, _≤_}
-use mathlib.Core.Path.{refl, ap, _∙_}
+use mathlib.Core.Path.{refl, sym, ap, _∙_}
 use mathlib.Core.List.{List, [], _∷_, _++_}
 use native.Mathlib.Omega.{arith}
 use borrow.Author.Needs.{needs}
 use lib.ListN.{length, length-append, length-set}
+use lib.Seq.{length-take-le}
 use Rattle.digits.specs.Digits.{digits}
 use Rattle.digits.specs.Texts.{stored, Put}
 use Rattle.digits.proofs.Value.{digits-long, digits-long-64}
 use Rattle.digits.proofs.Stores.{put-length, put-byte, put-then}
-use Rattle.listing.specs.Lines.{space, lineFeed}
-use Rattle.listing.proofs.Refused.{refused, refused-put, refused-pieces}
+use Rattle.listing.specs.Lines.{space, ended, eventNamed}
+use Rattle.listing.proofs.Refused.{refused, refused-put, named-few, named-part, named-long, refused-pieces}
 use Rattle.listing.proofs.put_refused.Statement.{statement}
 use Rattle.listing.proofs.put_refused.Tie as tie
 
--- ---- the two numbers, and how long they are
+-- ---- the numbers, and how long they are
 module _ (s : tie.Start) where
   number-long : length (digits (s .args .number)) ≤ 10
   number-long = digits-long (s .args .number) (omega arith)
 
   place-long : length (digits (s .args .place)) ≤ 20
   place-long = digits-long-64 (s .args .place) (omega arith)
+
+  rest-long : length (ended (eventNamed (s .args .number) (s .args .position))) ≤ 12
+  rest-long = named-long (s .args .number) (s .args .position) (digits-long (s .args .position) (omega arith))
 
 slice-write-out : tie.Need-slice-write-out
 slice-write-out c = search needs
@@ -87,29 +91,42 @@ second c =
 fits : (s : tie.Start) → let a = s .args in 0 + length (((refused ++ digits (a .number)) ++ (space ∷ [])) ++ digits (a .place)) ≤ 39
 fits s = simp length-append (omega (arith, number-long s, place-long s))
 
-slice-write-out-10 : tie.Need-slice-write-out-10
-slice-write-out-10 c =
-    let l = fits (c .before .before .before .before .before .before .before .before .before) in
-    let f = second (c .before .before) in
-    omega (arith, f .0, put-length _ _ _ 0 _ f (omega arith))
+events-named-requires : tie.Need-events-named-requires
+events-named-requires c κs = search needs
 
-add-result : tie.Need-add-result
-add-result c =
-    let l = fits (c .before .before .before .before .before .before .before .before .before) in
-    let p = second (c .before .before) .0 in
-    search needs
+array-share-prefix-ns : tie.Need-array-share-prefix-ns
+array-share-prefix-ns c = rw (c .before .events-named .ensures) (named-few (c .before .before .before .before .before .before .before .before .before .before .before .args .number))
+
+slice-aggregate-put-rest : tie.Need-slice-aggregate-put-rest
+slice-aggregate-put-rest c = sym (length-take-le _ _ (array-share-prefix-ns (c .before)))
+
+put-rest-requires : tie.Need-put-rest-requires
+put-rest-requires c κs =
+    let f = second (c .before .before .before .before .before) in
+    let l = fits (c .before .before .before .before .before .before .before .before .before .before .before .before) in
+    let k = slice-aggregate-put-rest c in
+    let one = array-share-prefix-ns (c .before) in
+    (omega arith, omega (arith, f .0, put-length _ _ _ 0 _ f (omega arith)))
+
+-- and the rest of the line
+all : (c : tie.After-put-rest) → let a = c .before .before .before .before .before .before .before .before .before .before .before .before .before .args in Put ((((refused ++ digits (a .number)) ++ (space ∷ [])) ++ digits (a .place)) ++ ended (eventNamed (a .number) (a .position))) 0 (c .put-rest .result) (a .out .now) (c .put-rest .last .0)
+all c =
+    let s = c .before .before .before .before .before .before .before .before .before .before .before .before .before in
+    let d = s .args .out .now in
+    let f = second (c .before .before .before .before .before .before) in
+    put-then d _ (((refused ++ digits (s .args .number)) ++ (space ∷ [])) ++ digits (s .args .place)) 0 _ f (ended (eventNamed (s .args .number) (s .args .position)))
+    _ _ (omega (arith, fits s, rest-long s)) (rw (c .before .before .before .events-named .ensures, named-part) at (c .put-rest .ensures .0))
 
 same-length : tie.Need-same-length
 same-length c =
-    let l = fits (c .before .before .before .before .before .before .before .before .before) in
-    simp length-set (put-length _ _ _ 0 _ (second (c .before .before)) (omega arith))
+    let t = c .before .before .before .before .before .before .before .before .before .before .before .before .before .before .before in
+    put-length _ _ _ 0 _ (all (c .before .before)) (omega (arith, fits t, rest-long t, length-append (((refused ++ digits (t .args .number)) ++ (space ∷ [])) ++ digits (t .args .place)) (ended (eventNamed (t .args .number) (t .args .position)))))
 
 returns : tie.Need-returns
 returns c =
-    let a = c .before .before .before .before .before .before .before .before .before .args in
-    let l = fits (c .before .before .before .before .before .before .before .before .before) in
-    let w = put-byte (a .out .now) _ _ 0 _ (second (c .before .before)) lineFeed (omega arith) in
-    let e = refused-pieces (a .number) (a .place) in
+    let a = c .before .before .before .before .before .before .before .before .before .before .before .before .before .before .before .args in
+    let w = all (c .before .before) in
+    let e = refused-pieces (a .number) (a .place) (a .position) in
     (omega (arith, w .0, ap (λ (t : List ℕ). length t) e), w .1 ∙ ap (stored (a .out .now) 0) e)
 
 pub put-refused-spec : {M : Type 1} → statement M
@@ -128,7 +145,9 @@ put-refused-spec =
     slice-write-out-9
     add-put-number
     put-number-requires-2
-    slice-write-out-10
-    add-result
+    events-named-requires
+    array-share-prefix-ns
+    slice-aggregate-put-rest
+    put-rest-requires
     same-length
     returns)

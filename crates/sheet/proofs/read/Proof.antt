@@ -8,7 +8,7 @@ use Rattle.relay.proofs.Tests.{tests}
 use Rattle.sheet.specs.Check.{word}
 use Rattle.sheet.specs.Reading.{verdictOf, entriesIn, decode}
 use Rattle.sheet.specs.declared.Verdict.{Verdict}
-use Rattle.sheet.proofs.Rooms.{posts-few, one-block, not-long, entries-few, entries-within, found-is, kinds-out, events-out, read-refused, read-short, read-found, room-kinds, room-events, room-both}
+use Rattle.sheet.proofs.Rooms.{posts-few, one-block, not-long, entries-few, entries-within, no-upper, found-is, kinds-out, events-out, read-refused, read-short, read-found, room-kinds, room-events, room-both}
 use Rattle.sheet.proofs.read.Statement.{statement}
 use Rattle.sheet.proofs.read.Tie as tie
 
@@ -64,7 +64,7 @@ events-requires : tie.Need-events-requires
 events-requires c κs =
     let z = passed (c .before .before .before .before .before .before .before .before .before) in
     let m = c .before .before .before .before .before .before .before .entries-in .ensures in
-    (rw m (entries-few _ z), rw m (entries-within _ z), c .before .before .before .before .before .if3 .left)
+    ((rw m (entries-few _ z), rw m (entries-within _ z), c .before .before .before .before .before .if3 .left), rw m (no-upper _ z))
 
 cast-t9 : tie.Need-cast-t9
 cast-t9 c = search tests

@@ -12,7 +12,7 @@ use Rattle.sheet.specs.Reading.{accepted, verdictOf, decode, found, refused, ha
 use Rattle.sheet.specs.declared.Found.{Found}
 use Rattle.working.specs.Working.{firstAnswered, ranOf, worked, Works}
 use Rattle.sheet.proofs.AnyRoom.{front, bad, good}
-use Rattle.working.proofs.Works.{no, works-unread, works-answered, works-short, works-worked, writes-worked, is-worked, ran-is, ran-events-are, said-table}
+use Rattle.working.proofs.Works.{works-unread, works-answered, works-short, works-worked, writes-worked, is-worked, ran-is, ran-events-are, said-table}
 use Rattle.working.proofs.Steps.{answered-long}
 use Rattle.working.proofs.work.Statement.{statement}
 use Rattle.working.proofs.work.Tie as tie

@@ -9,14 +9,16 @@ use borrow.Author.Tests.{not-true, not-false}
 use Rattle.relay.proofs.Tests.{tests}
 use Rattle.sheet.specs.Check.{word, checks}
 use Rattle.sheet.specs.Entry.{upperZero}
-use Rattle.sheet.specs.Reading.{entriesOk, zeros, firstBad, verdict}
+use Rattle.sheet.specs.Reading.{firstUpper, zeros, firstBad}
 use Rattle.sheet.specs.Shape.{shapeOf}
-use Rattle.sheet.proofs.Contents.{fills, Inside, shape-inside, entries-more, entries-bad, entries-done, zeros-more, zeros-bad, zeros-done, bad-check, bad-contents, good-block, no-more}
+use Rattle.sheet.specs.declared.Verdict.{Verdict}
+use Rattle.sheet.proofs.Contents.{fills, Faulty, wrong-shape, wrong-entry, wrong-zero, Inside, shape-inside, entries-more, entries-bad, entries-done, zeros-more, zeros-bad, zeros-done, bad-check, bad-contents, good-block, no-more}
+use Rattle.sheet.proofs.Packing.{told-upper, told-fields}
 use Rattle.sheet.proofs.blocks.first_bad.Statement.{statement}
 use Rattle.sheet.proofs.blocks.first_bad.Tie as tie
 
 abbrev Inv-loop : tie.InvT-loop
-Inv-loop s n b at shape events j₀ j = (j ≤ events) × (events ≤ 60) × (entriesOk s b j (events - j) ≡ entriesOk s b 0 events)
+Inv-loop s n b at shape events j₀ j = (j ≤ events) × (events ≤ 60) × (firstUpper s b j (events - j) ≡ firstUpper s b 0 events)
 
 abbrev μ-loop : tie.MeasureT-loop
 μ-loop s n b at shape events j₀ j = events - j
@@ -37,13 +39,14 @@ abbrev μ-blocks2 : tie.MeasureT-blocks2
 checked : (c : tie.Else2 Inv-loop μ-loop Inv-loop2 μ-loop2 Inv-blocks2 μ-blocks2) → checks (c .before .before .before .before .before .args .s .now) (c .before .before .before .blocks2 .b) ≡ true
 checked c = sym (c .before .checks-as .ensures) ∙ not-false _ (c .if2 .left)
 
--- a block that checks and whose contents are wrong is named, with 20
-named : (c : tie.Else2 Inv-loop μ-loop Inv-loop2 μ-loop2 Inv-blocks2 μ-blocks2) → fills (c .before .before .before .before .before .args .s .now) (c .before .before .before .blocks2 .b) (shapeOf (c .before .before .before .before .before .args .s .now) (c .before .before .before .before .before .args .n) (c .before .before .before .blocks2 .b)) ≡ false
-    → verdict 20 (c .before .before .before .blocks2 .b) ≡ firstBad (c .before .before .before .before .before .args .s .now) (c .before .before .before .before .before .args .n) 0 (c .before .before .before .before .before .args .n)
-named c bad =
+-- a block that checks and whose contents are wrong is named, with what is said of them
+named : (c : tie.Else2 Inv-loop μ-loop Inv-loop2 μ-loop2 Inv-blocks2 μ-blocks2) (v : Verdict)
+    → Faulty (c .before .before .before .before .before .args .s .now) (c .before .before .before .blocks2 .b) (shapeOf (c .before .before .before .before .before .args .s .now) (c .before .before .before .before .before .args .n) (c .before .before .before .blocks2 .b)) v
+    → v ≡ firstBad (c .before .before .before .before .before .args .s .now) (c .before .before .before .before .before .args .n) 0 (c .before .before .before .before .before .args .n)
+named c v bad =
     let o = c .before .before .before in
     let a = o .before .before .args in
-    sym (bad-contents (a .s .now) (a .n) (o .blocks2 .b) (omega arith) (checked c) bad) ∙ o .blocks2 .inv .1
+    sym (bad .1) ∙ sym (bad-contents (a .s .now) (a .n) (o .blocks2 .b) (omega arith) (checked c) (bad .0)) ∙ o .blocks2 .inv .1
 
 -- past the second its shape is right
 shaped : (c : tie.Else3 Inv-loop μ-loop Inv-loop2 μ-loop2 Inv-blocks2 μ-blocks2) → shapeOf (c .before .before .before .before .before .before .before .before .args .s .now) (c .before .before .before .before .before .before .before .before .args .n) (c .before .before .before .before .before .before .blocks2 .b) .ok ≡ true
@@ -91,9 +94,17 @@ get-word-requires :
     tie.Need-get-word-requires Inv-loop μ-loop Inv-loop2 μ-loop2 Inv-blocks2 μ-blocks2
 get-word-requires c κs = search tests
 
-upper-zero-requires :
-    tie.Need-upper-zero-requires Inv-loop μ-loop Inv-loop2 μ-loop2 Inv-blocks2 μ-blocks2
-upper-zero-requires c κs = search tests
+unpack-requires : tie.Need-unpack-requires Inv-loop μ-loop Inv-loop2 μ-loop2 Inv-blocks2 μ-blocks2
+unpack-requires c κs = search tests
+
+enum-told : tie.Need-enum-told Inv-loop μ-loop Inv-loop2 μ-loop2 Inv-blocks2 μ-blocks2
+enum-told c = search tests
+
+enum-told-2 : tie.Need-enum-told-2 Inv-loop μ-loop Inv-loop2 μ-loop2 Inv-blocks2 μ-blocks2
+enum-told-2 c = search tests
+
+cast-t20 : tie.Need-cast-t20 Inv-loop μ-loop Inv-loop2 μ-loop2 Inv-blocks2 μ-blocks2
+cast-t20 c = search tests
 
 add-j : tie.Need-add-j Inv-loop μ-loop Inv-loop2 μ-loop2 Inv-blocks2 μ-blocks2
 add-j c = search tests
@@ -103,11 +114,11 @@ loop-less c = search tests
 
 loop-again : tie.Need-loop-again Inv-loop μ-loop Inv-loop2 μ-loop2 Inv-blocks2 μ-blocks2
 loop-again c =
-    let l = c .before .before .before .before in
+    let l = c .before .before .before .before .before in
     let o = l .before .before .before .before .before .before .before in
     let s = o .before .before .args .s .now in
     let good : upperZero (word s (o .blocks2 .b) (1 + l .loop .j * 2)) ≡ true =
-    rw (← c .before .before .get-word .ensures) (sym (c .before .upper-zero .ensures) ∙ not-false _ (c .if4 .left)) in
+    rw (← c .before .before .before .get-word .ensures) (told-fields _ _ (c .before .before .unpack .ensures) _ _ _ (c .enum-told .given .1) .0) in
     (search tests, l .loop .inv .1, sym (entries-more s (o .blocks2 .b) _ (l .loop .j) (omega arith) good) ∙ l .loop .inv .2)
 
 loop2-holds : tie.Need-loop2-holds Inv-loop μ-loop Inv-loop2 μ-loop2 Inv-blocks2 μ-blocks2
@@ -134,7 +145,7 @@ loop2-again c =
     let l = c .before .before .before in
     let o = l .before .before .before .before .before .before .before .before .before in
     let s = o .before .before .args .s .now in
-    let zero : word s (o .blocks2 .b) (l .loop2 .k) ≡ 0 = sym (c .before .get-word2 .ensures) ∙ c .if5 .left in
+    let zero : word s (o .blocks2 .b) (l .loop2 .k) ≡ 0 = sym (c .before .get-word2 .ensures) ∙ c .if4 .left in
     (search tests, sym (zeros-more s (o .blocks2 .b) 127 (l .loop2 .k) (omega arith) zero) ∙ l .loop2 .inv .1)
 
 add-b : tie.Need-add-b Inv-loop μ-loop Inv-loop2 μ-loop2 Inv-blocks2 μ-blocks2
@@ -151,8 +162,7 @@ blocks2-again c =
     let d = e .before .before .before in
     let o = d .before .before .before in
     let a = o .before .before .args in
-    let entries : entriesOk (a .s .now) (o .blocks2 .b) 0 (e .before .before .shape-of .result .events) ≡ true =
-    sym (j .loop .inv .2) ∙ entries-done (a .s .now) (o .blocks2 .b) _ (j .loop .j) (omega arith) in
+    let entries = entries-done (a .s .now) (o .blocks2 .b) (e .before .before .shape-of .result .events) (j .loop .j) (omega arith) (omega arith) (j .loop .inv .2) in
     let rest : zeros (a .s .now) (o .blocks2 .b) (e .before .before .shape-of .result .used) (127 - e .before .before .shape-of .result .used) ≡ true =
     sym (l .loop2 .inv .1) ∙ zeros-done (a .s .now) (o .blocks2 .b) 127 (l .loop2 .k) (omega arith) in
     let good : fills (a .s .now) (o .blocks2 .b) (shapeOf (a .s .now) (a .n) (o .blocks2 .b)) ≡ true =
@@ -172,19 +182,19 @@ returns-2 c =
     sym (bad-check (a .s .now) (a .n) (o .blocks2 .b) (omega arith) (sym (c .before .checks-as .ensures) ∙ not-true _ (c .if2 .taken))) ∙ o .blocks2 .inv .1
 
 returns-3 : tie.Need-returns-3 Inv-loop μ-loop Inv-loop2 μ-loop2 Inv-blocks2 μ-blocks2
-returns-3 c = named (c .before .before .before) (rw (← c .before .before .shape-of .ensures, not-true (c .before .before .shape-of .result .ok) (c .if3 .taken)))
+returns-3 c = named (c .before .before .before) _ (rw (← c .before .before .shape-of .ensures) (wrong-shape _ _ _ (not-true (c .before .before .shape-of .result .ok) (c .if3 .taken))))
 
 returns-4 : tie.Need-returns-4 Inv-loop μ-loop Inv-loop2 μ-loop2 Inv-blocks2 μ-blocks2
 returns-4 c =
-    let l = c .before .before .before .before in
+    let l = c .before .before .before .before .before in
     let e = l .before in
     let o = e .before .before .before .before .before .before in
     let s = o .before .before .args .s .now in
     let bad : upperZero (word s (o .blocks2 .b) (1 + l .loop .j * 2)) ≡ false =
-    rw (← c .before .before .get-word .ensures) (sym (c .before .upper-zero .ensures) ∙ not-true _ (c .if4 .taken)) in
-    let none : entriesOk s (o .blocks2 .b) 0 (e .before .before .shape-of .result .events) ≡ false =
+    rw (← c .before .before .before .get-word .ensures) (told-upper _ _ (c .before .before .unpack .ensures) (c .enum-told2 .given .1)) in
+    let first : firstUpper s (o .blocks2 .b) 0 (e .before .before .shape-of .result .events) ≡ l .loop .j =
     sym (l .loop .inv .2) ∙ entries-bad s (o .blocks2 .b) _ (l .loop .j) (omega arith) bad in
-    named (e .before .before .before) (rw (← e .before .before .shape-of .ensures, not-false (e .before .before .shape-of .result .ok) (e .if3 .left), none))
+    named (e .before .before .before) _ (rw (← e .before .before .shape-of .ensures) (wrong-entry _ _ _ (not-false (e .before .before .shape-of .result .ok) (e .if3 .left)) _ first (omega arith)))
 
 returns-5 : tie.Need-returns-5 Inv-loop μ-loop Inv-loop2 μ-loop2 Inv-blocks2 μ-blocks2
 returns-5 c =
@@ -193,11 +203,10 @@ returns-5 c =
     let e = j .before in
     let o = e .before .before .before .before .before .before in
     let s = o .before .before .args .s .now in
-    let entries : entriesOk s (o .blocks2 .b) 0 (e .before .before .shape-of .result .events) ≡ true =
-    sym (j .loop .inv .2) ∙ entries-done s (o .blocks2 .b) _ (j .loop .j) (omega arith) in
+    let entries = entries-done s (o .blocks2 .b) (e .before .before .shape-of .result .events) (j .loop .j) (omega arith) (omega arith) (j .loop .inv .2) in
     let none : zeros s (o .blocks2 .b) (e .before .before .shape-of .result .used) (127 - e .before .before .shape-of .result .used) ≡ false =
-    sym (l .loop2 .inv .1) ∙ zeros-bad s (o .blocks2 .b) 127 (l .loop2 .k) (omega arith) (λ z. c .if5 .taken (c .before .get-word2 .ensures ∙ z)) in
-    named (e .before .before .before) (rw (← e .before .before .shape-of .ensures, not-false (e .before .before .shape-of .result .ok) (e .if3 .left), entries, none))
+    sym (l .loop2 .inv .1) ∙ zeros-bad s (o .blocks2 .b) 127 (l .loop2 .k) (omega arith) (λ z. c .if4 .taken (c .before .get-word2 .ensures ∙ z)) in
+    named (e .before .before .before) _ (rw (← e .before .before .shape-of .ensures) (wrong-zero _ _ _ (not-false (e .before .before .shape-of .result .ok) (e .if3 .left)) entries none))
 
 pub first-bad-spec : {M : Type 1} → statement M
 first-bad-spec =
@@ -221,7 +230,10 @@ first-bad-spec =
     mul-get-word-2
     add-get-word-2
     get-word-requires
-    upper-zero-requires
+    unpack-requires
+    enum-told
+    enum-told-2
+    cast-t20
     add-j
     loop-less
     loop-again

@@ -2,12 +2,15 @@
 -- Assumes nothing.
 use Prim.Native.Nat.{ℕ, _+_, _-_, _*_, _/_, _%_, _≤_, _<_}
 use mathlib.Core.Path.{_≡_, refl, sym, ap, _∙_}
+use mathlib.Core.Bool.{false, false≢true}
 use mathlib.Core.List.{List, [], _++_}
 use native.Mathlib.Omega.{arith}
 use lib.ListN.{length, drop}
 use Rattle.sheet.specs.Words.{tab, wordAt}
 use Rattle.sheet.specs.Check.{word}
+use Rattle.sheet.specs.Entry.{upperZero}
 use Rattle.sheet.specs.Reading.{entryIn}
+use Rattle.sheet.proofs.Packing.{told-upper, told-fields}
 use Rattle.sheet.proofs.Tabs.{front-none, front-more, length-front}
 use Rattle.relay.proofs.Tests.{tests}
 use Rattle.sheet.proofs.give.events.Statement.{statement}
@@ -43,23 +46,34 @@ add-at-3 c = search tests
 get-word-requires : tie.Need-get-word-requires Inv-loop μ-loop
 get-word-requires c κs = search tests
 
+unpack-requires : tie.Need-unpack-requires Inv-loop μ-loop
+unpack-requires c κs = search tests
+
+enum-known-number : tie.Need-enum-known-number Inv-loop μ-loop
+enum-known-number c = search tests
+
+enum-told : tie.Need-enum-told Inv-loop μ-loop
+enum-told c = search tests
+
+same-length : tie.Need-same-length Inv-loop μ-loop
+same-length c = search tests
+
+returns : tie.Need-returns Inv-loop μ-loop
+returns c =
+    let l = c .before .before .before .before .before in
+    let a = l .before .before .args in
+    let bad : upperZero (word (a .s .now) (1 + l .loop .i / 60) (1 + l .loop .i % 60 * 2)) ≡ false =
+    rw (← c .before .before .before .get-word .ensures) (told-upper _ _ (c .before .before .unpack .ensures) (c .enum-told .given .1)) in
+    absurd (false≢true (sym bad ∙ l .before .before .pre .1 (l .loop .i) (omega arith)))
+
 add-get-word : tie.Need-add-get-word Inv-loop μ-loop
 add-get-word c = search tests
 
 get-word-requires-2 : tie.Need-get-word-requires-2 Inv-loop μ-loop
 get-word-requires-2 c κs = search tests
 
-number-in-requires : tie.Need-number-in-requires Inv-loop μ-loop
-number-in-requires c κs = search tests
-
-post-in-requires : tie.Need-post-in-requires Inv-loop μ-loop
-post-in-requires c κs = search tests
-
-answer-in-requires : tie.Need-answer-in-requires Inv-loop μ-loop
-answer-in-requires c κs = search tests
-
-mul-t15 : tie.Need-mul-t15 Inv-loop μ-loop
-mul-t15 c = search tests
+mul-t16 : tie.Need-mul-t16 Inv-loop μ-loop
+mul-t16 c = search tests
 
 slice-set-from-room : tie.Need-slice-set-from-room Inv-loop μ-loop
 slice-set-from-room c = search tests
@@ -72,22 +86,23 @@ loop-less c = search tests
 
 loop-again : tie.Need-loop-again Inv-loop μ-loop
 loop-again c =
-    let l = c .before .before .before .before .before .before in
+    let l = c .before .before .before .before .before .before .before in
     let s = l .before .before .args .s .now in
     let i = l .loop .i in
     let next : (1 + i / 60) * 512 + (1 + i % 60 * 2) * 4 + 4 ≡ (1 + i / 60) * 512 + (2 + i % 60 * 2) * 4 = omega arith in
-    let t : c .before .before .before .get-word2 .result ≡ word s (1 + i / 60) (2 + i % 60 * 2) = c .before .before .before .get-word2 .ensures ∙ ap (wordAt s) next in (
+    let t : c .get-word2 .result ≡ word s (1 + i / 60) (2 + i % 60 * 2) = c .get-word2 .ensures ∙ ap (wordAt s) next in
+    let f = told-fields _ _ (c .before .before .before .before .unpack .ensures) _ _ _ (c .before .before .number .given .1) in (
       search tests,
       search tests,
-      rw (c .before .before .number-in .ensures, c .before .post-in .ensures, c .answer-in .ensures, c .before .before .before .before .get-word .ensures, t, l .loop .inv .2)
+      rw (f .1, f .2, f .3, c .before .before .before .before .before .get-word .ensures, t, l .loop .inv .2)
           (front-more (entryIn s) [] i _ (omega arith)),
     )
 
-same-length : tie.Need-same-length Inv-loop μ-loop
-same-length c = search tests
+same-length-2 : tie.Need-same-length-2 Inv-loop μ-loop
+same-length-2 c = search tests
 
-returns : tie.Need-returns Inv-loop μ-loop
-returns c = let e : c .before .loop .i ≡ c .before .before .before .args .m = omega arith in rw e at (c .before .loop .inv .2)
+returns-2 : tie.Need-returns-2 Inv-loop μ-loop
+returns-2 c = let e : c .before .loop .i ≡ c .before .before .before .args .m = omega arith in rw e at (c .before .loop .inv .2)
 
 pub events-spec : {M : Type 1} → statement M
 events-spec =
@@ -103,15 +118,17 @@ events-spec =
     mul-at-3
     add-at-3
     get-word-requires
+    unpack-requires
+    enum-known-number
+    enum-told
+    same-length
+    returns
     add-get-word
     get-word-requires-2
-    number-in-requires
-    post-in-requires
-    answer-in-requires
-    mul-t15
+    mul-t16
     slice-set-from-room
     add-i
     loop-less
     loop-again
-    same-length
-    returns)
+    same-length-2
+    returns-2)
