@@ -1,9 +1,10 @@
--- The line of a refusal: the word "refused" and its space a byte at a time, and the line as the pieces that are put one after the other.
+-- The line of a refusal: what it says, the word "refused" and its space a byte at a time, and the line as the pieces that are put one after the other.
 -- Assumes nothing.
 use Prim.Native.Nat.{ℕ, _≤_}
-use mathlib.Core.Path.{_≡_}
+use mathlib.Core.Path.{_≡_, refl}
 use mathlib.Core.List.{List, [], _∷_, _++_, append-assoc}
 use native.Mathlib.Omega.{arith}
+use borrow.Author.Tests.{ne-eqb}
 use lib.Dec.{eqb}
 use lib.ListN.{length, set, take, length-append}
 use Rattle.relay.proofs.Truth.{split}
@@ -12,8 +13,21 @@ use Rattle.sheet.specs.Layout.{upperBits}
 use Rattle.digits.specs.Digits.{digits}
 use Rattle.digits.specs.Texts.{stored}
 use Rattle.digits.proofs.Stores.{put-one, stored-more}
-use Rattle.listing.specs.Lines.{space, spaced, ended, eventNamed, refusedLine}
+use Rattle.listing.specs.Lines.{space, spaced, ended, line, eventNamed, refusedLine}
 
+-- ---- what is printed. 02, item 6: `refused 24 BLOCK POSITION`, and every other refusal as before it
+abbrev word : List ℕ
+word = 114 ∷ 101 ∷ 102 ∷ 117 ∷ 115 ∷ 101 ∷ 100 ∷ []
+
+pub prints-event : (block position : ℕ) → refusedLine 24 block position ≡ line word (24 ∷ block ∷ position ∷ [])
+unfolding refusedLine eventNamed
+prints-event block position = refl
+
+pub prints-others : (number place position : ℕ) → (number ≡ 24 → ⊥) → refusedLine number place position ≡ line word (number ∷ place ∷ [])
+unfolding refusedLine eventNamed
+prints-others number place position n = rw (ne-eqb number 24 n)
+
+-- ---- how it is put
 -- the word "refused" and a space, a byte at a time
 abbrev pub refused : List ℕ
 refused = 114 ∷ 101 ∷ 102 ∷ 117 ∷ 115 ∷ 101 ∷ 100 ∷ space ∷ []

@@ -7,7 +7,7 @@ use mathlib.Core.Bool.{Bool, true, false}
 use mathlib.Core.List.{List}
 use native.Mathlib.Nat.{eq-or-lt-of-le}
 use native.Mathlib.Omega.{arith}
-use borrow.Author.Tests.{ltb-true, ltb-false, lt-ltb, le-ltb}
+use borrow.Author.Tests.{ltb-true, ltb-false, lt-ltb}
 use Rattle.relay.proofs.Truth.{split, least-or-below}
 use Rattle.sheet.specs.Check.{word}
 use Rattle.sheet.specs.Entry.{upperZero}
@@ -16,19 +16,15 @@ use Rattle.sheet.specs.Reading.{firstUpper}
 -- 'bits 16 to 31 are zero'
 pub upper-zero : (w : ℕ) → upperZero w ≡ true → w < 65536
 unfolding upperZero
-upper-zero w e = ltb-true w 65536 e
+upper-zero w e = omega (arith, ltb-true w 65536 e)
 
 pub upper-some : (w : ℕ) → upperZero w ≡ false → 65536 ≤ w
 unfolding upperZero
-upper-some w e = ltb-false w 65536 e
+upper-some w e = omega (arith, ltb-false w 65536 e)
 
 pub zero-upper : (w : ℕ) → w < 65536 → upperZero w ≡ true
 unfolding upperZero
 zero-upper w h = lt-ltb w 65536 h
-
-pub some-upper : (w : ℕ) → 65536 ≤ w → upperZero w ≡ false
-unfolding upperZero
-some-upper w h = le-ltb w 65536 h
 
 -- ---- of n events of block b, from event j on
 module _ (s : List ℕ) (b : ℕ) where

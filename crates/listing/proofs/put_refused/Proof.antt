@@ -115,7 +115,7 @@ all c =
     let d = s .args .out .now in
     let f = second (c .before .before .before .before .before .before) in
     put-then d _ (((refused ++ digits (s .args .number)) ++ (space ∷ [])) ++ digits (s .args .place)) 0 _ f (ended (eventNamed (s .args .number) (s .args .position)))
-    _ _ (omega (arith, fits s, rest-long s)) (rw (c .before .before .before .events-named .ensures, named-part) at (c .put-rest .ensures .0))
+    _ _ (omega (arith, fits s, rest-long s)) (rw (c .before .before .before .events-named .ensures, named-part (s .args .number) (s .args .position)) at (c .put-rest .ensures .0))
 
 same-length : tie.Need-same-length
 same-length c =
