@@ -1,6 +1,7 @@
 //! Compares a block desk's library, or its working program, with the outside model.
 
 pub mod alterations;
+pub mod bad_fields;
 pub mod buttons;
 pub mod cases;
 pub mod checked;

@@ -390,51 +390,57 @@ fn a_place_let_through_is_found() {
     });
 }
 
-type Read = fn(&[u8], &mut [u32], &mut [Entry]) -> Found;
-type Work = fn(&[u8], &mut [u8]) -> Worked;
-type Why = fn(&[u8], u32) -> Since;
-type Export = fn(&[u8], &mut [u8]) -> Exported;
-
 /// A desk with one call of its own.
-#[derive(Default)]
-struct Own {
-    read: Option<Read>,
-    work: Option<Work>,
-    why: Option<Why>,
-    export: Option<Export>,
+#[derive(Clone, Copy)]
+enum Own {
+    Read(fn(&[u8], &mut [u32], &mut [Entry]) -> Found),
+    Work(fn(&[u8], &mut [u8]) -> Worked),
+    Why(fn(&[u8], u32) -> Since),
+    Export(fn(&[u8], &mut [u8]) -> Exported),
 }
 
 impl Desk for Own {
     fn read(&mut self, sheet: &[u8], kinds: &mut [u32], events: &mut [Entry]) -> Found {
-        self.read.unwrap_or(model::read)(sheet, kinds, events)
+        match self {
+            Own::Read(read) => read(sheet, kinds, events),
+            _ => model::read(sheet, kinds, events),
+        }
     }
 
     fn work(&mut self, sheet: &[u8], out: &mut [u8]) -> Worked {
-        self.work.unwrap_or(model::work)(sheet, out)
+        match self {
+            Own::Work(work) => work(sheet, out),
+            _ => model::work(sheet, out),
+        }
     }
 
     fn why(&mut self, sheet: &[u8], position: u32) -> Since {
-        self.why.unwrap_or(model::why)(sheet, position)
+        match self {
+            Own::Why(why) => why(sheet, position),
+            _ => model::why(sheet, position),
+        }
     }
 
     fn export(&mut self, sheet: &[u8], out: &mut [u8]) -> Exported {
-        self.export.unwrap_or(model::export)(sheet, out)
+        match self {
+            Own::Export(export) => export(sheet, out),
+            _ => model::export(sheet, out),
+        }
     }
 }
 
-fn own_found(name: &str, own: Own) {
-    must_differ_on(&[FIELDS], name, own);
-}
+type OwnFault = (&'static str, Own);
 
 /// The sheet as it would be good but for its room, if upper bits are all that is wrong.
 fn mended(sheet: &[u8]) -> Vec<u8> {
     without(sheet, |_| UPPER)
 }
 
-#[test]
-fn a_wrong_reading_is_found() {
-    let reads: [(&str, Read); 3] = [
-        ("21 before 24", |sheet, kinds, events| {
+/// What comes before 24, or is told or written beside it.
+const BEFORE_24: &[OwnFault] = &[
+    (
+        "read: 21 before 24",
+        Own::Read(|sheet, kinds, events| {
             let told = model::read(sheet, kinds, events);
             let short = model::read(&mended(sheet), &mut kinds.to_vec(), &mut events.to_vec());
             match (told.number, short.number) {
@@ -442,8 +448,63 @@ fn a_wrong_reading_is_found() {
                 _ => told,
             }
         }),
-        (
-            "posts and stamp with 24",
+    ),
+    (
+        "work: 21 before 24",
+        Own::Work(|sheet, out| match model::work(sheet, out) {
+            told if told.number == 24 && out.len() < sheet.len() => refused(21, 0, 0).into(),
+            told => told,
+        }),
+    ),
+    (
+        "work: an answered event before 24",
+        Own::Work(|sheet, out| answered_first(sheet, out, |_, _| true)),
+    ),
+    (
+        "work: the same, in an earlier block",
+        Own::Work(|sheet, out| answered_first(sheet, out, |answered, bad| answered < bad)),
+    ),
+    (
+        "why: 29 before 24, position 0",
+        Own::Why(|sheet, position| match model::why(sheet, position) {
+            told if told.number == 24 && position == 0 => refused(29, 0, 0).into(),
+            told => told,
+        }),
+    ),
+    (
+        "why: 29 before 24",
+        Own::Why(|sheet, position| {
+            let told = model::why(sheet, position);
+            let nothing = model::why(&mended(sheet), position);
+            match (told.number, nothing.number) {
+                (24, 29) => nothing,
+                _ => told,
+            }
+        }),
+    ),
+    (
+        "export: 21 before 24",
+        Own::Export(|sheet, out| match model::export(sheet, out) {
+            told if told.number == 24 && out.is_empty() => refused(21, 0, 0).into(),
+            told => told,
+        }),
+    ),
+];
+
+/// 20 for an answered event in the place of 24, by the blocks of both.
+fn answered_first(sheet: &[u8], out: &mut [u8], such: fn(u32, u32) -> bool) -> Worked {
+    let told = model::work(sheet, out);
+    let answered = model::work(&mended(sheet), &mut out.to_vec());
+    match (told.number, answered.number) {
+        (24, 20) if such(answered.block, told.block) => answered,
+        _ => told,
+    }
+}
+
+const BESIDE_24: &[OwnFault] = &[
+    (
+        "read: posts and stamp",
+        Own::Read(
             |sheet, kinds, events| match model::read(sheet, kinds, events) {
                 told if told.number == 24 => Found {
                     posts: get(sheet, 0, 1),
@@ -453,53 +514,20 @@ fn a_wrong_reading_is_found() {
                 told => told,
             },
         ),
-        ("rooms filled with 24", |sheet, kinds, events| {
+    ),
+    (
+        "read: rooms filled",
+        Own::Read(|sheet, kinds, events| {
             let told = model::read(sheet, kinds, events);
             if told.number == 24 {
                 model::read(&mended(sheet), kinds, events);
             }
             told
         }),
-    ];
-    for (name, read) in reads {
-        let read = Some(read);
-        own_found(
-            name,
-            Own {
-                read,
-                ..Own::default()
-            },
-        );
-    }
-}
-
-#[test]
-fn a_wrong_working_is_found() {
-    let works: [(&str, Work); 4] = [
-        ("21 before 24", |sheet, out| {
-            let told = model::work(sheet, out);
-            match told.number {
-                24 if out.len() < sheet.len() => refused(21, 0, 0).into(),
-                _ => told,
-            }
-        }),
-        ("an answered event before 24", |sheet, out| {
-            let told = model::work(sheet, out);
-            let answered = model::work(&mended(sheet), &mut out.to_vec());
-            match (told.number, answered.number) {
-                (24, 20) => answered,
-                _ => told,
-            }
-        }),
-        ("the same, in an earlier block", |sheet, out| {
-            let told = model::work(sheet, out);
-            let answered = model::work(&mended(sheet), &mut out.to_vec());
-            match (told.number, answered.number) {
-                (24, 20) if answered.block < told.block => answered,
-                _ => told,
-            }
-        }),
-        ("worked as far as the bad event", |sheet, out| {
+    ),
+    (
+        "work: the sheet written",
+        Own::Work(|sheet, out| {
             let told = model::work(sheet, out);
             if told.number == 24 {
                 let length = out.len().min(sheet.len());
@@ -507,24 +535,71 @@ fn a_wrong_working_is_found() {
             }
             told
         }),
-    ];
-    for (name, work) in works {
-        let work = Some(work);
-        own_found(
-            name,
-            Own {
-                work,
-                ..Own::default()
-            },
-        );
-    }
-}
+    ),
+    (
+        "why: the position that is asked about",
+        Own::Why(|sheet, position| match model::why(sheet, position) {
+            told if told.number == 24 => Since { position, ..told },
+            told => told,
+        }),
+    ),
+    (
+        "export: bytes",
+        Own::Export(|sheet, out| match model::export(sheet, out) {
+            told if told.number == 24 => Exported { bytes: 34, ..told },
+            told => told,
+        }),
+    ),
+    (
+        "export: the header written",
+        Own::Export(|sheet, out| {
+            let told = model::export(sheet, out);
+            if told.number == 24 && out.len() >= 34 {
+                out[..34].copy_from_slice(b"position,event,post,stamp,answer\r\n");
+            }
+            told
+        }),
+    ),
+];
 
-/// Working's 20 for an event answered already names its block alone.
-#[test]
-fn a_position_of_an_answered_event_is_found() {
-    let works: [(&str, Work); 2] = [
-        ("its position in the block", |sheet, out| {
+/// Of a sheet that is not refused the position is 0, and of one with an answered event, which
+/// working refuses 20 by its block.
+const WITHOUT_24: &[OwnFault] = &[
+    (
+        "reading",
+        Own::Read(
+            |sheet, kinds, events| match model::read(sheet, kinds, events) {
+                told if told.number == 0 => Found {
+                    position: 1,
+                    ..told
+                },
+                told => told,
+            },
+        ),
+    ),
+    (
+        "working",
+        Own::Work(|sheet, out| match model::work(sheet, out) {
+            told if told.number == 0 => Worked {
+                position: 1,
+                ..told
+            },
+            told => told,
+        }),
+    ),
+    (
+        "exporting",
+        Own::Export(|sheet, out| match model::export(sheet, out) {
+            told if told.number == 0 => Exported {
+                position: 1,
+                ..told
+            },
+            told => told,
+        }),
+    ),
+    (
+        "working",
+        Own::Work(|sheet, out| {
             let mut events = vec![[0; 4]; MOST_EVENTS];
             model::read(sheet, &mut [0; 32], &mut events);
             let answered = events.iter().position(|event| event[2] != 31);
@@ -534,152 +609,35 @@ fn a_position_of_an_answered_event_is_found() {
             }
             told
         }),
-        ("24 in the place of 20", |sheet, out| {
-            let mut told = model::work(sheet, out);
-            if told.number == 20 && test(sheet).number == 0 {
-                told.number = 24;
-            }
-            told
+    ),
+    (
+        "working",
+        Own::Work(|sheet, out| match model::work(sheet, out) {
+            told if told.number == 20 && test(sheet).number == 0 => Worked { number: 24, ..told },
+            told => told,
         }),
-    ];
-    for (name, work) in works {
-        let work = Some(work);
-        let own = Own {
-            work,
-            ..Own::default()
-        };
-        must_differ_on(&["working"], name, own);
+    ),
+];
+
+#[test]
+fn a_wrong_call_is_found() {
+    for (name, own) in BEFORE_24.iter().chain(BESIDE_24) {
+        must_differ_on(&[FIELDS], name, *own);
     }
 }
 
-/// Of a sheet that is not refused, the position is 0.
+/// By the sort of cases that has such sheets.
 #[test]
-fn a_position_of_a_good_sheet_is_found() {
+fn a_position_without_24_is_found() {
+    for (sort, own) in WITHOUT_24 {
+        must_differ_on(&[*sort], sort, *own);
+    }
     let says = |_: &[u8], right: Verdict| match right.number {
         0 => refused(0, 0, 1),
         _ => right,
     };
     let (call, fault) = ("test", Fault::Says(says));
     must_differ_on(&["reading"], "test", Wrong { call, fault });
-    let read: Read = |sheet, kinds, events| match model::read(sheet, kinds, events) {
-        told if told.number == 0 => Found {
-            position: 1,
-            ..told
-        },
-        told => told,
-    };
-    let work: Work = |sheet, out| match model::work(sheet, out) {
-        told if told.number == 0 => Worked {
-            position: 1,
-            ..told
-        },
-        told => told,
-    };
-    let export: Export = |sheet, out| match model::export(sheet, out) {
-        told if told.number == 0 => Exported {
-            position: 1,
-            ..told
-        },
-        told => told,
-    };
-    let (read, work, export) = (Some(read), Some(work), Some(export));
-    must_differ_on(
-        &["reading"],
-        "read",
-        Own {
-            read,
-            ..Own::default()
-        },
-    );
-    must_differ_on(
-        &["working"],
-        "work",
-        Own {
-            work,
-            ..Own::default()
-        },
-    );
-    must_differ_on(
-        &["exporting"],
-        "export",
-        Own {
-            export,
-            ..Own::default()
-        },
-    );
-}
-
-#[test]
-fn a_wrong_question_is_found() {
-    let whys: [(&str, Why); 3] = [
-        (
-            "29 before 24, position 0",
-            |sheet, position| match model::why(sheet, position) {
-                told if told.number == 24 && position == 0 => refused(29, 0, 0).into(),
-                told => told,
-            },
-        ),
-        ("29 before 24", |sheet, position| {
-            let told = model::why(sheet, position);
-            let nothing = model::why(&mended(sheet), position);
-            match (told.number, nothing.number) {
-                (24, 29) => nothing,
-                _ => told,
-            }
-        }),
-        (
-            "the position that is asked about",
-            |sheet, position| match model::why(sheet, position) {
-                told if told.number == 24 => Since { position, ..told },
-                told => told,
-            },
-        ),
-    ];
-    for (name, why) in whys {
-        let why = Some(why);
-        own_found(
-            name,
-            Own {
-                why,
-                ..Own::default()
-            },
-        );
-    }
-}
-
-#[test]
-fn a_wrong_export_is_found() {
-    let exports: [(&str, Export); 3] = [
-        ("21 before 24", |sheet, out| {
-            match model::export(sheet, out) {
-                told if told.number == 24 && out.is_empty() => refused(21, 0, 0).into(),
-                told => told,
-            }
-        }),
-        ("bytes with 24", |sheet, out| {
-            match model::export(sheet, out) {
-                told if told.number == 24 => Exported { bytes: 34, ..told },
-                told => told,
-            }
-        }),
-        ("exported as far as the bad event", |sheet, out| {
-            let told = model::export(sheet, out);
-            if told.number == 24 && out.len() >= 34 {
-                out[..34].copy_from_slice(b"position,event,post,stamp,answer\r\n");
-            }
-            told
-        }),
-    ];
-    for (name, export) in exports {
-        let export = Some(export);
-        own_found(
-            name,
-            Own {
-                export,
-                ..Own::default()
-            },
-        );
-    }
 }
 
 /// So that what finds the faults above is the fault, and not the way it is put in.
@@ -692,7 +650,7 @@ fn what_changes_nothing_is_not_found() {
         let same = Fault::Takes(Box::new(|sheet| without(sheet, |_| 0)));
         assert!(compare_only(&[FIELDS], Wrong { call, fault: same }).is_ok());
     }
-    assert!(compare_only(&[FIELDS], Own::default()).is_ok());
+    assert!(compare_only(&[FIELDS], Own::Work(model::work)).is_ok());
 }
 
 /// What is refused, by how the names of the makers begin; and 20 for all others.

@@ -4,11 +4,12 @@
 mod common;
 
 use common::{must_differ, refused, right, small_run, Events};
+use compare::bad_fields::{BITS, OF_ALL};
 use compare::cases::{sorts, Wanted};
 use compare::checked::CHECKED;
 use compare::desk::{Desk, InProcess, Model};
 use compare::moments::{ALTERED, MOMENTS};
-use compare::named::{BITS, OF_ALL, WANTED};
+use compare::named::WANTED;
 use compare::registers::{EXPORTS, IMPORTS, LONG};
 use compare::run::compare;
 use compare::seen::SEEN;
