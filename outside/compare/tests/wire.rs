@@ -186,7 +186,7 @@ fn said_so(words: &str, line: &str) -> String {
     but_for(words, &so)
 }
 
-/// Without the position, with it before the block, and 20 in the place of 24.
+/// Without the position, with it before the block, 20 in the place of 24, and the last one wrong.
 const WRONG_REFUSALS: [&str; 4] = [
     "s/^(refused 24 [0-9]+) .*/\\1/",
     "s/^refused 24 ([0-9]+) (.*)/refused 24 \\2 \\1/",
