@@ -6,6 +6,7 @@
 
 void read_at(struct desk_found *, const uint8_t *, size_t, uint32_t *, size_t, desk_entry *, size_t) __asm__("desk_read");
 void work_at(struct desk_worked *, const uint8_t *, size_t, uint8_t *, size_t) __asm__("desk_work");
+void export_at(struct desk_exported *, const uint8_t *, size_t, uint8_t *, size_t) __asm__("desk_export");
 void import_at(struct desk_imported *, const uint8_t *, size_t, uint8_t *, size_t) __asm__("desk_import");
 
 static inline struct desk_found read_by_value(const uint8_t *sheet, size_t n, uint32_t *kinds, size_t k, desk_entry *events,
@@ -25,6 +26,14 @@ static inline struct desk_worked work_by_value(const uint8_t *sheet, size_t n, u
     return worked;
 }
 
+static inline struct desk_exported export_by_value(const uint8_t *sheet, size_t n, uint8_t *out, size_t room)
+{
+    struct desk_exported exported;
+
+    export_at(&exported, sheet, n, out, room);
+    return exported;
+}
+
 static inline struct desk_imported import_by_value(const uint8_t *text, size_t n, uint8_t *out, size_t room)
 {
     struct desk_imported imported;
@@ -35,4 +44,5 @@ static inline struct desk_imported import_by_value(const uint8_t *text, size_t n
 
 #define desk_read read_by_value
 #define desk_work work_by_value
+#define desk_export export_by_value
 #define desk_import import_by_value

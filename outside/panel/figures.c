@@ -164,8 +164,10 @@ int main(int count, char **args)
     rounds = atol(args[2]);
     input_bytes = fread(input, 1, sizeof input, stdin);
     found = desk_read(input, input_bytes, kinds, DESK_POSTS, entries, DESK_EVENTS);
-    if (found.number != 0)
+    if (found.number != 0) {
+        fprintf(stderr, "figures: %u, block %u, position %u\n", found.number, found.block, found.position);
         fail("the input is no sheet");
+    }
     if (strcmp(args[1], "why") == 0 || strcmp(args[1], "plain") == 0)
         work_once();
     if (strcmp(args[1], "import") == 0 || strcmp(args[1], "plain_import") == 0)

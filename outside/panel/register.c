@@ -42,7 +42,10 @@ int main(void)
     sheet_bytes = fread(sheet, 1, sizeof sheet, stdin);
     told = desk_export(sheet, sheet_bytes, text, DESK_TEXT);
     if (told.number != 0) {
-        fprintf(stderr, "register: the sheet is refused %u, block %u\n", told.number, told.block);
+        fprintf(stderr, "register: the sheet is refused %u, block %u", told.number, told.block);
+        if (told.number == 24)
+            fprintf(stderr, ", position %u", told.position);
+        fprintf(stderr, "\n");
         return 1;
     }
     fwrite(text, 1, told.bytes, stdout);

@@ -5,13 +5,15 @@
  *     1 START  n k stamp, n records, k kinds                  -> answer taken last, n records
  *     2 VALID  n taken last, n records                        -> 0 or 1, n records
  *     3 EVENT  n taken last number place stamp, n records     -> answer taken last, n records
- *     4 READ   bytes k m fill, bytes                          -> number block posts stamp events, k words, m entries
+ *     4 READ   bytes k m fill, bytes                          -> number block position posts stamp events of desk_read,
+ *              number block position of desk_test, k words, m entries
  *     5 WRITE  k stamp m room fill, k kinds, m entries        -> number, room bytes
- *     6 WORK   bytes room fill, bytes                         -> number block n taken last, n records, room bytes
+ *     6 WORK   bytes room fill, bytes                         -> number block position n taken last, n records,
+ *              room bytes
  *     7 RUN    n stamp k, n kinds, k times (number place stamp)
  *              -> START's reply, and EVENT's for each of the k, on one row that stays lent
  *     8 WHY    bytes position, bytes                          -> number block position
- *     9 EXPORT bytes room fill, bytes                         -> number block bytes, room bytes
+ *     9 EXPORT bytes room fill, bytes                         -> number block position bytes, room bytes
  *    10 IMPORT bytes room fill, bytes                         -> number record bytes, room bytes
  *    11 CHECK  bytes number, bytes                            -> 0 or 1, the bytes
  * `fill` is what a lent room holds before the call. The record and the bytes that 9 and 10 return are of 64 bits each:
@@ -334,9 +336,8 @@ static void read_sheet(void)
     same(&sheet_area);
     canary(&kinds_area);
     canary(&entries_area);
-    if (found.number != 21 && (verdict.number != found.number || verdict.block != found.block))
-        fail("desk_test and desk_read disagree");
     give(&found, sizeof found);
+    give(&verdict, sizeof verdict);
     give(kinds, k * sizeof *kinds);
     give(entries, m * sizeof *entries);
 }
@@ -373,6 +374,7 @@ static void work(void)
         fail("desk_work returned more records than there are");
     give_word(worked.number);
     give_word(worked.block);
+    give_word(worked.position);
     give_word((uint32_t)worked.row.n);
     give_head(worked.head);
     give(worked.row.posts, worked.row.n * sizeof worked.row.posts[0]);
@@ -401,6 +403,7 @@ static void export_sheet(void)
     canary(&out_area);
     give_word(exported.number);
     give_word(exported.block);
+    give_word(exported.position);
     give_long(exported.bytes);
     give_bytes(out, room);
 }

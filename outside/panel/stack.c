@@ -55,6 +55,17 @@ static void one_export(void) { exported = AS(desk_export)(out, sizeof out, text,
 static void one_import(void) { imported = AS(desk_import)(text, exported.bytes, sheet, sizeof sheet); }
 static void one_wrong(void) { imported = AS(desk_import)(text, exported.bytes - 1, sheet, sizeof sheet); }
 
+/* Adds to the first event word, and takes as much off the check. */
+static void add_to_event(uint32_t by)
+{
+    uint32_t block[DESK_BLOCK / sizeof by];
+
+    memcpy(block, sheet + DESK_BLOCK, sizeof block);
+    block[1] += by;
+    block[127] -= by;
+    memcpy(sheet + DESK_BLOCK, block, sizeof block);
+}
+
 /* The caller of the callee. */
 static void (*caller)(void);
 static volatile size_t place;
@@ -128,6 +139,11 @@ int main(void)
     PRINT(one_check, desk_check, 1, &number);
     PRINT(one_test, desk_test, 0, &verdict.number);
     PRINT(one_read, desk_read, 0, &found.number);
+    add_to_event(1u << 16);
+    NAMED("desk_test, refused", one_test, desk_test, 24, &verdict.number);
+    NAMED("desk_read, refused", one_read, desk_read, 24, &found.number);
+    NAMED("desk_work, refused", one_work, desk_work, 24, &worked.number);
+    add_to_event(-(1u << 16));
     PRINT(one_work, desk_work, 0, &worked.number);
     PRINT(one_why, desk_why, 1, &since.position);
     PRINT(one_export, desk_export, 0, &exported.number);

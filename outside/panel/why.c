@@ -6,7 +6,7 @@
 
 #include "desk.h"
 
-enum { BYTES = 2 * DESK_BLOCK };
+enum { BYTES = 2 * DESK_BLOCK, CHECK = DESK_BLOCK - 4 };
 
 static unsigned wrong;
 
@@ -19,6 +19,15 @@ static void expect(const char *which, const uint8_t *sheet, size_t n, uint32_t p
     fprintf(stderr, "why: %s, position %u: %u %u %u, not %u %u %u\n", which, position, got.number, got.block,
             got.position, right.number, right.block, right.position);
     wrong++;
+}
+
+/* Alters the highest byte of the word of the event at this position of block 1, and its check by as much. */
+static void put_bits(uint8_t *sheet, uint32_t position)
+{
+    uint8_t *block = sheet + DESK_BLOCK;
+
+    block[4 + 8 * position + 3] += 0x40;
+    block[CHECK + 3] -= 0x40;
 }
 
 int main(void)
@@ -40,6 +49,11 @@ int main(void)
     expect("worked, no event", sheet, BYTES, UINT32_MAX, none);
     expect("not answered", handed_in, BYTES, 5, none);
     expect("cut", sheet, BYTES - 1, 5, (struct desk_since){18, 0, 0});
+    /* The field that is bad is named by its position in the block, from 0. */
+    put_bits(sheet, 14);
+    expect("upper bits of the last event", sheet, BYTES, 5, (struct desk_since){24, 1, 14});
+    put_bits(sheet, 4);
+    expect("upper bits of two events", sheet, BYTES, 0, (struct desk_since){24, 1, 4});
     sheet[DESK_BLOCK] ^= 1;
     expect("damaged", sheet, BYTES, 5, (struct desk_since){19, 1, 0});
     return wrong == 0 ? 0 : 1;

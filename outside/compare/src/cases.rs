@@ -6,7 +6,7 @@ use crate::request::{Reply, Request};
 use crate::variety::Variety;
 use crate::{
     checks, full, histories, long_texts, misprints, questions, rooms, rows, spoiled, starts, texts,
-    writes,
+    upper_bits, writes,
 };
 
 /// A sort of cases. Its varieties take turns, so that each has its share.
@@ -52,6 +52,7 @@ pub struct Wanted {
 }
 
 pub const ALTERED_ROWS: &str = "altered-rows";
+pub const FIELDS: &str = "fields";
 
 /// All sorts, in the order in which they take turns.
 pub fn sorts() -> Vec<Sort> {
@@ -84,11 +85,12 @@ pub fn sorts() -> Vec<Sort> {
         each("long-texts", long_texts::LONG),
         numbered("exporting", rooms::output_names(), rooms::exporting),
         each("blocks", checks::BLOCKS),
+        numbered(FIELDS, upper_bits::names(), upper_bits::bad_field),
     ]
 }
 
 /// Each sort's share, in the order of `sorts`.
-pub fn shares(wanted: Wanted) -> [u64; 18] {
+pub fn shares(wanted: Wanted) -> [u64; 19] {
     let Wanted {
         events,
         rows,
@@ -116,6 +118,7 @@ pub fn shares(wanted: Wanted) -> [u64; 18] {
         texts / 1000,
         texts / 4,
         blocks,
+        sheets / 2,
     ]
 }
 

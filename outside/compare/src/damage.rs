@@ -7,6 +7,7 @@ use crate::random::Random;
 use crate::request::padded;
 use crate::sheets::{blocks, get, lively_sheet, put, renew, renewed, sheet_by, some, Sheet};
 use crate::tables::{any_number, table, Place};
+use crate::upper_bits::some_bad;
 
 /// A kind of sheet: its name and its maker.
 pub type Kind = (&'static str, fn(&mut Random) -> Vec<u8>);
@@ -56,6 +57,7 @@ pub const KINDS: &[Kind] = &[
     ("upper bits of an event", |random| {
         one_block(random, 1, upper_bits)
     }),
+    ("upper bits, and what else is wrong", some_bad),
     ("filler of a later block", |random| {
         one_block(random, 1, later_filler)
     }),
@@ -312,7 +314,7 @@ fn any_words(random: &mut Random, block: &mut [u32]) {
     }
 }
 
-fn filler(random: &mut Random) -> u32 {
+pub fn filler(random: &mut Random) -> u32 {
     random.pick(&[1, 31 << 11, 1 << 16, 1 << 31, u32::MAX])
 }
 
@@ -346,14 +348,25 @@ pub fn break_contents(random: &mut Random, bytes: &mut [u8], at: usize) {
     put(bytes, at, word, wrong);
 }
 
+/// Upper bits in an event word of this block, or of the first after block 0, under a right check.
+pub fn break_field(random: &mut Random, bytes: &mut [u8], at: usize) {
+    let at = at.max(1);
+    let held = (get(bytes, at, 0) as usize).clamp(1, EVENTS_PER_BLOCK);
+    let word = 1 + 2 * random.below(held);
+    let wrong = get(bytes, at, word) | 1 << random.between(16, 31);
+    put(bytes, at, word, wrong);
+    renew(bytes, at);
+}
+
 /// Two or three blocks wrong, each in its check, its contents or both.
 fn several_bad(random: &mut Random) -> Vec<u8> {
     let mut bytes = some(random, 61).bytes();
     for _ in 0..random.between(2, 3) {
         let at = random.below(blocks(&bytes));
-        match random.below(3) {
+        match random.below(4) {
             0 => break_check(random, &mut bytes, at),
             1 => break_contents(random, &mut bytes, at),
+            2 => break_field(random, &mut bytes, at),
             _ => {
                 break_contents(random, &mut bytes, at);
                 renew(&mut bytes, at);

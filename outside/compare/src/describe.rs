@@ -3,7 +3,7 @@
 use model::Post;
 
 use crate::checks::plain_sum;
-use crate::request::{post_words, Request, POST_WORDS};
+use crate::request::{post_words, Request, POST_WORDS, RECORDS_AT};
 
 const FIELDS: [&str; POST_WORDS] = [
     "relay word",
@@ -18,6 +18,29 @@ const FIELDS: [&str; POST_WORDS] = [
     "e",
     "c",
 ];
+
+const FOUND: &[&str] = &[
+    "number",
+    "block",
+    "position",
+    "posts",
+    "stamp",
+    "events",
+    "number of the test",
+    "block of the test",
+    "position of the test",
+];
+
+const WORKED: &[&str] = &[
+    "number",
+    "block",
+    "position",
+    "records",
+    "events taken",
+    "last stamp",
+];
+
+const EXPORTED: &[&str] = &["number", "block", "position", "bytes", "bytes, upper word"];
 
 const IMPORTED: &[&str] = &[
     "number",
@@ -35,23 +58,18 @@ impl Request {
             Request::Valid { .. } => named(&["valid"], at, record_word),
             Request::Start { .. } | Request::Event { .. } => named(TOLD, at, record_word),
             Request::Read { kinds_room, .. } => {
-                let front = &["number", "block", "posts", "stamp", "events"];
-                named(front, at, |rest| read_word(*kinds_room, rest))
+                named(FOUND, at, |rest| read_word(*kinds_room, rest))
             }
             Request::Write { .. } => named(&["number"], at, out_bytes),
             Request::Work { .. } => {
-                let front = &["number", "block", "records", "events taken", "last stamp"];
-                let records = reply[2] as usize * POST_WORDS;
-                named(front, at, |rest| match rest.checked_sub(records) {
+                let records = reply[RECORDS_AT] as usize * POST_WORDS;
+                named(WORKED, at, |rest| match rest.checked_sub(records) {
                     Some(past) => out_bytes(past),
                     None => record_word(rest),
                 })
             }
             Request::Why { .. } => named(&["number", "block", "position"], at, out_bytes),
-            Request::Export { .. } => {
-                let front = &["number", "block", "bytes", "bytes, upper word"];
-                named(front, at, out_bytes)
-            }
+            Request::Export { .. } => named(EXPORTED, at, out_bytes),
             Request::Import { .. } => named(IMPORTED, at, out_bytes),
             Request::Check { .. } => named(&["checks"], at, block_word),
             Request::Run { kinds, steps, .. } => {
@@ -100,7 +118,7 @@ impl Request {
                 events_room,
                 ..
             } => format!(
-                "reading {} bytes into rooms of {kinds_room} kinds and {events_room} events",
+                "testing and reading {} bytes into rooms of {kinds_room} kinds and {events_room} events",
                 sheet.len()
             ),
             Request::Write {

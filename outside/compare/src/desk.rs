@@ -1,6 +1,6 @@
 //! A library that answers requests, and the desk's calls behind it.
 
-use model::{Entry, Exported, Found, Head, Imported, Post, Since, Told, Worked};
+use model::{Entry, Exported, Found, Head, Imported, Post, Since, Told, Verdict, Worked};
 
 use crate::request::{padded, post_words, row_words, Reply, Request};
 
@@ -22,6 +22,10 @@ pub trait Desk {
     fn event(&mut self, row: &mut [Post], head: Head, step: [u32; 3]) -> Told {
         let [number, place, stamp] = step;
         model::event(row, head, number, place, stamp)
+    }
+
+    fn test(&mut self, sheet: &[u8]) -> Verdict {
+        model::test(sheet)
     }
 
     fn read(&mut self, sheet: &[u8], kinds: &mut [u32], events: &mut [Entry]) -> Found {
@@ -110,7 +114,7 @@ fn sheet_reply(desk: &mut dyn Desk, request: &Request) -> Reply {
             let mut kinds = vec![*fill; *kinds_room];
             let mut events = vec![[*fill; 4]; *events_room];
             let found = desk.read(sheet, &mut kinds, &mut events);
-            found_words(found, &kinds, &events)
+            found_words(found, desk.test(sheet), &kinds, &events)
         }
         Request::Work {
             sheet,
@@ -152,7 +156,7 @@ fn register_reply(desk: &mut dyn Desk, request: &Request) -> Reply {
         } => {
             let mut out = vec![*fill; *out_len];
             let exported = desk.export(sheet, &mut out);
-            let front = [exported.number, exported.block];
+            let front = [exported.number, exported.block, exported.position];
             [&front, &two_words(exported.bytes as u64)[..], &padded(&out)].concat()
         }
         Request::Import {
@@ -175,9 +179,11 @@ fn two_words(number: u64) -> [u32; 2] {
     [number as u32, (number >> 32) as u32]
 }
 
-fn found_words(found: Found, kinds: &[u32], events: &[Entry]) -> Reply {
-    let mut words = vec![found.number, found.block];
+/// What reading returns, then what the test of the same sheet does, and the rooms.
+fn found_words(found: Found, test: Verdict, kinds: &[u32], events: &[Entry]) -> Reply {
+    let mut words = vec![found.number, found.block, found.position];
     words.extend([found.posts, found.stamp, found.events]);
+    words.extend([test.number, test.block, test.position]);
     words.extend(kinds);
     words.extend(events.concat());
     words
@@ -186,7 +192,8 @@ fn found_words(found: Found, kinds: &[u32], events: &[Entry]) -> Reply {
 fn worked_words(worked: &Worked, out: &[u8]) -> Reply {
     let Head { taken, last } = worked.head;
     let records = worked.row.len() as u32;
-    let mut words = vec![worked.number, worked.block, records, taken, last];
+    let mut words = vec![worked.number, worked.block, worked.position];
+    words.extend([records, taken, last]);
     words.extend(row_words(&worked.row));
     words.extend(padded(out));
     words

@@ -1,12 +1,13 @@
 //! The heavy ones: sheets of 64 blocks, lengths past them, 3,780 and 3,781 events.
 
-use model::{BLOCK_BYTES, MOST_BLOCKS, MOST_EVENTS};
+use model::{BLOCK_BYTES, EVENTS_PER_BLOCK, MOST_BLOCKS, MOST_EVENTS};
 
 use crate::histories::some_posts;
 use crate::questions::{ask, chosen, TOLD};
 use crate::random::Random;
 use crate::request::Request;
-use crate::sheets::{lively_sheet, put, renew, Sheet};
+use crate::rooms::export_of;
+use crate::sheets::{get, lively_sheet, put, renew, Sheet};
 use crate::variety::Variety;
 use crate::writes::{any_sheet, push_out, written, wrong_table};
 
@@ -36,6 +37,13 @@ pub const FULL: &[Variety] = &[
     ("work, last block bad", |random| {
         let sheet = last_bad(random);
         work(random, sheet, 0)
+    }),
+    ("why or export, last block bad", |random| {
+        let sheet = last_bad(random);
+        match random.chance(50) {
+            true => ask(sheet, MOST_EVENTS as u32),
+            false => export_of(random, sheet),
+        }
     }),
     ("work, last event answered", |random| {
         let mut sheet = full_sheet(random);
@@ -109,12 +117,19 @@ fn full_worked(random: &mut Random) -> Sheet {
     full_sheet(random).worked()
 }
 
-/// Wrong in its check or, under a right one, in its contents.
+/// Wrong in its check or, under a right one, in its contents or in the last event of all.
 fn last_bad(random: &mut Random) -> Vec<u8> {
     let mut sheet = full_sheet(random).bytes();
-    put(&mut sheet, MOST_BLOCKS - 1, 126, 1);
-    if random.chance(50) {
-        renew(&mut sheet, MOST_BLOCKS - 1);
+    let (last, last_event) = (MOST_BLOCKS - 1, 2 * EVENTS_PER_BLOCK - 1);
+    match random.below(4) {
+        0 | 1 => {
+            let word = get(&sheet, last, last_event);
+            put(&mut sheet, last, last_event, word | 1 << 16);
+        }
+        _ => put(&mut sheet, last, 126, 1),
+    }
+    if random.chance(70) {
+        renew(&mut sheet, last);
     }
     sheet
 }

@@ -1,6 +1,7 @@
 //! Compares a block desk's library, or its working program, with the outside model.
 
 pub mod alterations;
+pub mod bad_fields;
 pub mod buttons;
 pub mod cases;
 pub mod checked;
@@ -12,12 +13,14 @@ mod describe;
 pub mod desk;
 pub mod failing;
 pub mod fixed;
+pub mod fixed_fields;
 pub mod fixed_texts;
 pub mod full;
 pub mod histories;
 pub mod long_texts;
 pub mod misprints;
 pub mod moments;
+pub mod named;
 pub mod program;
 pub mod questions;
 pub mod ran;
@@ -38,6 +41,7 @@ pub mod strikes;
 pub mod tables;
 pub mod tally;
 pub mod texts;
+pub mod upper_bits;
 pub mod variety;
 pub mod words;
 pub mod writes;

@@ -1,11 +1,12 @@
 //! The working program, run once for each input, beside what the model writes.
 
 use model::program::{asked, wrote};
-use model::{BLOCK_BYTES, MOST_EVENTS};
+use model::{BLOCK_BYTES, EVENTS_PER_BLOCK, MOST_EVENTS};
 
 use crate::damage::KINDS;
 use crate::failing::check_failing_inputs;
 use crate::fixed::fixed_cases;
+use crate::fixed_fields::{field_cases, WORDS};
 use crate::fixed_texts::{check_byte_by_byte, check_long_texts, register_cases};
 use crate::misprints;
 use crate::questions::QUESTIONS;
@@ -15,6 +16,7 @@ use crate::request::Request;
 use crate::sheets::{get, lively_sheet};
 use crate::spoiled::SPOILED;
 use crate::texts::{Text, RIGHT};
+use crate::upper_bits::bad_at;
 use crate::words::{check_pipes, check_wrong_words, why_cases, work_cases};
 
 /// Inputs no longer than this are sometimes given byte by byte.
@@ -36,7 +38,7 @@ struct Sort {
     make: fn(&mut Random, u64) -> Asked,
 }
 
-const SORTS: [Sort; 5] = [
+const SORTS: [Sort; 6] = [
     Sort {
         name: "desk",
         number: 100,
@@ -66,6 +68,12 @@ const SORTS: [Sort; 5] = [
         number: 105,
         share: |sheets| sheets,
         make: imported,
+    },
+    Sort {
+        name: "desk-fields",
+        number: 106,
+        share: |sheets| sheets.div_ceil(2),
+        make: bad_field,
     },
 ];
 
@@ -133,6 +141,14 @@ fn imported(random: &mut Random, index: u64) -> Asked {
     asked_of(name, &["import"], text)
 }
 
+/// Each word by turns, and each position.
+fn bad_field(random: &mut Random, index: u64) -> Asked {
+    let (words, _) = WORDS[index as usize % WORDS.len()];
+    let position = index as usize / WORDS.len() % EVENTS_PER_BLOCK;
+    let answered = random.chance(30);
+    asked_of("upper bits", words, bad_at(random, position, answered))
+}
+
 /// One run compared; the text of a difference if there is one.
 fn check_random(command: &[String], seed: u64, sort: &Sort, index: u64) -> Result<(), String> {
     let mut random = Random::of_case(seed, sort.number, index);
@@ -159,6 +175,7 @@ fn check_fixed(command: &[String]) -> Result<usize, String> {
         .chain(work_cases())
         .chain(why_cases())
         .chain(register_cases())
+        .chain(field_cases())
     {
         let small = case.input.len() <= SMALL;
         let ways = [Given::AtOnce, Given::InPieces(1)];
@@ -173,7 +190,7 @@ fn check_fixed(command: &[String]) -> Result<usize, String> {
 }
 
 /// The fixed cases, the long texts, the inputs that fail and then so many random sheets, half as
-/// many for each word, and as many texts. What ran, or the first difference.
+/// many for each word and with a bad field, and as many texts. What ran, or the first difference.
 pub fn compare_program(command: &[String], seed: u64, sheets: u64) -> Result<String, String> {
     let fixed = check_fixed(command)?;
     let wrong = check_wrong_words(command)?;
@@ -186,18 +203,18 @@ pub fn compare_program(command: &[String], seed: u64, sheets: u64) -> Result<Str
             check_random(command, seed, sort, index)?;
         }
     }
-    let [listed, worked, asked, exported, imported] = SORTS.map(|sort| (sort.share)(sheets));
+    let [listed, worked, asked, exported, imported, bad] = SORTS.map(|sort| (sort.share)(sheets));
     Ok(format!(
         "{fixed} fixed runs, {wrong} of wrong words, {pipes} pipes, {long} long texts, \
         {failing} inputs that fail, {slow} texts byte by byte; random sheets: {listed} listed, {worked} worked, {asked} asked about, \
-        {exported} exported; {imported} random texts imported"
+        {exported} exported, {bad} with a bad field; {imported} random texts imported"
     ))
 }
 
 /// Replays one random input, named by its sort, a colon and its index.
 pub fn only_program(command: &[String], seed: u64, name: &str) -> Result<String, String> {
-    let wanted = "no such case: \"desk\", \"desk-work\", \"desk-why\", \"desk-export\" or \
-        \"desk-import\", a colon and a number are wanted";
+    let wanted = "no such case: \"desk\", \"desk-work\", \"desk-why\", \"desk-export\", \
+        \"desk-import\" or \"desk-fields\", a colon and a number are wanted";
     let (sort, index) = name.split_once(':').ok_or(wanted)?;
     let sort = SORTS
         .iter()

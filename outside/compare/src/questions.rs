@@ -3,7 +3,7 @@
 
 use model::{BLOCK_BYTES, MOST_BLOCKS};
 
-use crate::damage::{break_check, break_contents, with_number, KINDS};
+use crate::damage::{break_check, break_contents, break_field, with_number, KINDS};
 use crate::histories::{early_event, pupils_event, some_posts, stuck_pupils_event, Next};
 use crate::random::Random;
 use crate::request::Request;
@@ -82,6 +82,12 @@ pub const QUESTIONS: &[Variety] = &[
             let at = random.below(blocks(bytes));
             break_contents(random, bytes, at);
             renew(bytes, at);
+        })
+    }),
+    ("upper bits of an event", |random| {
+        damaged(random, |random, bytes| {
+            let at = random.below(blocks(bytes));
+            break_field(random, bytes, at);
         })
     }),
     ("any number for the first kind", |random| {

@@ -102,6 +102,7 @@ pub const EXPORTS: &[Wanted<Export>] = &[
     ("18", |e| e.number == 18),
     ("19", |e| e.number == 19),
     ("20", |e| e.number == 20),
+    ("24", |e| e.number == 24),
     ("19 or 20 in a later block", |e| {
         e.number < 21 && e.block > 0
     }),

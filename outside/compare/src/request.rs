@@ -10,6 +10,9 @@ pub type Step = [u32; 3];
 
 pub const POST_WORDS: usize = 11;
 
+/// The word of a working's reply that says how many records follow its front.
+pub const RECORDS_AT: usize = 3;
+
 #[derive(Clone, Debug)]
 pub enum Request {
     Start {
@@ -159,7 +162,7 @@ impl Request {
     /// How many words of a reply tell how long it is in all.
     pub fn reply_front(&self) -> usize {
         match self {
-            Request::Work { .. } => 5,
+            Request::Work { .. } => 6,
             _ => 1,
         }
     }
@@ -173,15 +176,16 @@ impl Request {
                 kinds_room,
                 events_room,
                 ..
-            } => 5 + kinds_room + events_room * 4,
+            } => 9 + kinds_room + events_room * 4,
             Request::Write { out_len, .. } => 1 + out_len.div_ceil(4),
             Request::Work { out_len, .. } => {
-                5 + front[2] as usize * POST_WORDS + out_len.div_ceil(4)
+                6 + front[RECORDS_AT] as usize * POST_WORDS + out_len.div_ceil(4)
             }
             Request::Run { kinds, steps, .. } => (1 + steps.len()) * (3 + kinds.len() * POST_WORDS),
             Request::Why { .. } => 3,
-            Request::Export { out_len, .. } => 4 + out_len.div_ceil(4),
-            Request::Import { out_len, .. } => 5 + out_len.div_ceil(4),
+            Request::Export { out_len, .. } | Request::Import { out_len, .. } => {
+                5 + out_len.div_ceil(4)
+            }
             Request::Check { block, .. } => 1 + block.len().div_ceil(4),
         }
     }

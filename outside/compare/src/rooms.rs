@@ -48,29 +48,38 @@ pub fn reading_names() -> Vec<String> {
 }
 
 pub fn reading(random: &mut Random, variety: usize) -> Request {
-    let (sheet, posts, events, rooms) = match variety.checked_sub(KINDS.len()) {
-        Some(at) => {
-            let sheet = some(random, 0);
-            let (posts, events) = (sheet.kinds.len(), sheet.events.len());
-            (sheet.bytes(), posts, events, ROOMS[at])
-        }
-        None => {
-            let sheet = KINDS[variety].1(random);
-            // What it says of itself, if it is as long as that.
-            let posts = if sheet.len() < 8 {
-                0
-            } else {
-                get(&sheet, 0, 1)
-            };
-            let events = EVENTS_PER_BLOCK * blocks(&sheet).saturating_sub(1);
-            let rooms = if random.chance(80) {
-                ROOMS[2]
-            } else {
-                random.pick(ROOMS)
-            };
-            (sheet, posts.min(40) as usize, events, rooms)
-        }
+    let Some(at) = variety.checked_sub(KINDS.len()) else {
+        let sheet = KINDS[variety].1(random);
+        return read_of(random, sheet);
     };
+    let sheet = some(random, 0);
+    let (posts, events) = (sheet.kinds.len(), sheet.events.len());
+    read_into(random, sheet.bytes(), [posts, events], ROOMS[at])
+}
+
+/// The reading of any sheet, most often into rooms that are long enough.
+pub fn read_of(random: &mut Random, sheet: Vec<u8>) -> Request {
+    // What it says of itself, if it is as long as that.
+    let posts = if sheet.len() < 8 {
+        0
+    } else {
+        get(&sheet, 0, 1)
+    };
+    let events = EVENTS_PER_BLOCK * blocks(&sheet).saturating_sub(1);
+    let rooms = if random.chance(80) {
+        ROOMS[2]
+    } else {
+        random.pick(ROOMS)
+    };
+    read_into(random, sheet, [posts.min(40) as usize, events], rooms)
+}
+
+fn read_into(
+    random: &mut Random,
+    sheet: Vec<u8>,
+    [posts, events]: [usize; 2],
+    rooms: Rooms,
+) -> Request {
     Request::Read {
         sheet,
         kinds_room: about(posts, rooms.1),
@@ -89,18 +98,33 @@ fn sheet_and_output(random: &mut Random, variety: usize) -> (Vec<u8>, i64) {
     match variety.checked_sub(KINDS.len()) {
         Some(at) => (some(random, 0).bytes(), OUTPUTS[at].1),
         None => {
-            let by = if random.chance(80) {
-                0
-            } else {
-                random.pick(OUTPUTS).1
-            };
+            let by = some_output(random);
             (KINDS[variety].1(random), by)
         }
     }
 }
 
+/// Most often as long as is needed.
+fn some_output(random: &mut Random) -> i64 {
+    if random.chance(80) {
+        0
+    } else {
+        random.pick(OUTPUTS).1
+    }
+}
+
 pub fn working(random: &mut Random, variety: usize) -> Request {
     let (sheet, by) = sheet_and_output(random, variety);
+    work_into(random, sheet, by)
+}
+
+/// The working of any sheet.
+pub fn work_of(random: &mut Random, sheet: Vec<u8>) -> Request {
+    let by = some_output(random);
+    work_into(random, sheet, by)
+}
+
+fn work_into(random: &mut Random, sheet: Vec<u8>, by: i64) -> Request {
     Request::Work {
         out_len: about(sheet.len(), by),
         sheet,
@@ -108,9 +132,19 @@ pub fn working(random: &mut Random, variety: usize) -> Request {
     }
 }
 
-/// A sheet that is refused has a room about its own length.
 pub fn exporting(random: &mut Random, variety: usize) -> Request {
     let (sheet, by) = sheet_and_output(random, variety);
+    export_into(random, sheet, by)
+}
+
+/// The export of any sheet.
+pub fn export_of(random: &mut Random, sheet: Vec<u8>) -> Request {
+    let by = some_output(random);
+    export_into(random, sheet, by)
+}
+
+/// A sheet that is refused has a room about its own length.
+fn export_into(random: &mut Random, sheet: Vec<u8>, by: i64) -> Request {
     let needed = exported(&sheet).map_or(sheet.len(), |text| text.len());
     Request::Export {
         out_len: about(needed, by),

@@ -64,6 +64,7 @@ pub const SEEN: &[Wanted<Question>] = &[
     ("18", |q| q.number == 18),
     ("19", |q| q.number == 19),
     ("20", |q| q.number == 20),
+    ("24", |q| q.number == 24),
 ];
 
 /// A question and the model's reply.

@@ -4,10 +4,11 @@ use std::fmt::Write;
 
 use model::kind;
 
-use crate::cases::{Case, Sort, ALTERED_ROWS};
+use crate::cases::{Case, Sort, ALTERED_ROWS, FIELDS};
 use crate::checked::{Checked, CHECKED};
 use crate::counts::Counts;
 use crate::moments::{Altered, Goes, Moment, ALTERED, MOMENTS};
+use crate::named::Named;
 use crate::registers::{Export, Import, EXPORTS, IMPORTS, LONG, LONG_FROM};
 use crate::request::{Request, POST_WORDS};
 use crate::seen::{Question, RARELY, SEEN};
@@ -15,9 +16,10 @@ use crate::shorts::{AT_ALTERED, AT_MOMENTS};
 use crate::stood::Stood;
 use crate::tables::KINDS;
 
-/// The numbers that a call can return: 0 to 23, 28 and 29.
-const ANSWERS: [usize; 26] = [
-    0, 1, 2, 3, 4, 5, 6, 7, 8, 9, 10, 11, 12, 13, 14, 15, 16, 17, 18, 19, 20, 21, 22, 23, 28, 29,
+/// The numbers that a call can return: 0 to 24, 28 and 29.
+const ANSWERS: [usize; 27] = [
+    0, 1, 2, 3, 4, 5, 6, 7, 8, 9, 10, 11, 12, 13, 14, 15, 16, 17, 18, 19, 20, 21, 22, 23, 24, 28,
+    29,
 ];
 
 /// The events which can be taken at each kind, in both its forms (for 8, 9 and 10: the kind
@@ -49,6 +51,7 @@ pub struct Tally {
     pub moments: Counts<Moment>,
     pub altered: Counts<Altered>,
     pub stood: Stood,
+    pub named: Named,
     pub questions: Counts<Question>,
     pub imports: Counts<Import>,
     pub long: Counts<Import>,
@@ -67,6 +70,7 @@ impl Tally {
             moments: Counts::with_kinds("events in histories", MOMENTS, AT_MOMENTS),
             altered: Counts::with_kinds("altered rows", ALTERED, AT_ALTERED),
             stood: Stood::default(),
+            named: Named::default(),
             questions: Counts::new("questions of since when", SEEN),
             imports: Counts::new("texts", IMPORTS),
             long: Counts::new("long texts", LONG),
@@ -87,9 +91,13 @@ impl Tally {
             _ => self.answers[first as usize] += 1,
         }
         self.stood.add(&case.request);
-        self.add_seen(case, &sorts[case.sort].varieties[case.variety]);
-        if sorts[case.sort].name == ALTERED_ROWS {
-            self.add_altered(&case.request, first);
+        self.named.add(&case.request, &case.expected);
+        let sort = &sorts[case.sort];
+        match sort.name {
+            ALTERED_ROWS => self.add_altered(&case.request, first),
+            // What is wanted of questions and exports is a share of those that are not all bad.
+            FIELDS => {}
+            _ => self.add_seen(case, &sort.varieties[case.variety]),
         }
     }
 
@@ -174,6 +182,7 @@ impl Tally {
             }
         }
         lines.extend(self.stood.missing());
+        lines.extend(self.named.missing());
         lines.extend(self.moments.rare(u64::MAX));
         lines.extend(self.altered.rare(u64::MAX));
         lines.extend(self.questions.rare(RARELY));
@@ -207,6 +216,7 @@ impl Tally {
         for counts in [
             self.taken_text(),
             self.stood.text(),
+            self.named.text(),
             self.moments.text(),
             self.altered.text(),
             self.questions.text(),

@@ -175,6 +175,75 @@ fn a_program_with_wrong_jams_is_found() {
     ]);
 }
 
+/// The program, with what a line of sed does to what it prints, or to what it says, for these
+/// words.
+fn printed_so(words: &str, line: &str) -> String {
+    but_for(words, &format!("DESK | sed -E '{line}'"))
+}
+
+fn said_so(words: &str, line: &str) -> String {
+    let so = format!("{{ DESK 2>&1 >&3 | sed -E '{line}' >&2; }} 3>&1");
+    but_for(words, &so)
+}
+
+/// Without the position, with it before the block, 20 in the place of 24, and the last one wrong.
+const WRONG_REFUSALS: [&str; 4] = [
+    "s/^(refused 24 [0-9]+) .*/\\1/",
+    "s/^refused 24 ([0-9]+) (.*)/refused 24 \\2 \\1/",
+    "s/^refused 24 /refused 20 /",
+    "s/^(refused 24 .*) 59$/\\1 60/",
+];
+
+#[test]
+fn a_listing_with_wrong_fields_is_found() {
+    let name = "upper bits in each position";
+    let lines = WRONG_REFUSALS.map(|line| (printed_so("''", line), name));
+    must_be_found(&lines);
+    let others = [
+        ("s/^refused (18|19|20) [0-9]+$/& 0/", "empty input"),
+        ("s/^refused 20 ([0-9]+)$/& 0/", "wrong contents in block 0"),
+        ("s/^(refused 24 .*) 0$/\\1 1/", name),
+        (
+            "s/^refused 24 2 6$/refused 24 2 7/",
+            "upper bits: the event",
+        ),
+        ("s/^refused 19 2$/refused 24 2 7/", "wrong check in block 2"),
+        (
+            "s/^refused 20 4$/refused 24 4 20/",
+            "answered: the first of",
+        ),
+    ];
+    must_be_found(&others.map(|(line, text)| (printed_so("''", line), text)));
+}
+
+#[test]
+fn a_word_with_wrong_fields_is_found() {
+    let name = "upper bits in each position";
+    for line in WRONG_REFUSALS {
+        must_be_found(&[
+            (printed_so("'why 1'", line), name),
+            (said_so("work", line), name),
+            (said_so("export", line), name),
+        ]);
+    }
+    let any = "s/^refused (18|19|20) [0-9]+$/& 0/";
+    must_be_found(&[
+        (printed_so("why*", any), "\"cut\""),
+        (said_so("work", any), "work: empty input"),
+        (said_so("export", any), "export: empty input"),
+        (said_so("import", "s/^refused .*/& 0/"), "import: nothing"),
+        // 24 printed, where it should be said.
+        (
+            but_for(
+                "work",
+                "{ DESK 2>&1 >&3 | { read -r l; case $l in 'refused 24'*) echo \"$l\" >&3;; \
+                ?*) echo \"$l\" >&2;; esac; }; } 3>&1",
+            ),
+            name,
+        ),
+    ]);
+}
+
 #[test]
 fn a_program_with_wrong_exports_is_found() {
     must_be_found(&[

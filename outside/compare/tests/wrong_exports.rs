@@ -135,7 +135,7 @@ const EXPORTS: &[ExportFault] = &[
             number => Exported {
                 number,
                 block: worked.block,
-                bytes: 0,
+                ..Exported::default()
             },
         }
     }),

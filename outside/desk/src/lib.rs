@@ -49,12 +49,15 @@ pub struct Told {
     pub head: Head,
 }
 
-/// A sheet's refusal and the block that it names, or zeros.
+/// A sheet's refusal (18, 19, 20 or 24), the block that it names, and for 24 the position in that block, from 0, of the
+/// first event word whose bits 16 to 31 are not zero; 0 for any other number, and zeros where nothing is refused. What
+/// the calls below return of a sheet has the same three.
 #[repr(C)]
 #[derive(Clone, Copy, Debug, Default, PartialEq, Eq)]
 pub struct Verdict {
     pub number: u32,
     pub block: u32,
+    pub position: u32,
 }
 
 /// What reading returns.
@@ -63,6 +66,7 @@ pub struct Verdict {
 pub struct Found {
     pub number: u32,
     pub block: u32,
+    pub position: u32,
     pub posts: u32,
     pub stamp: u32,
     pub events: u32,
@@ -88,11 +92,13 @@ impl Row {
 pub struct Worked {
     pub number: u32,
     pub block: u32,
+    pub position: u32,
     pub row: Row,
     pub head: Head,
 }
 
-/// What a question of since when returns.
+/// What a question of since when returns: 0, 0 and the position of the event that is named, in the sheet, from 1; or a
+/// refusal, its block and its position in that block, as `Verdict` has them.
 #[repr(C)]
 #[derive(Clone, Copy, Debug, Default, PartialEq, Eq)]
 pub struct Since {
@@ -107,6 +113,7 @@ pub struct Since {
 pub struct Exported {
     pub number: u32,
     pub block: u32,
+    pub position: u32,
     pub bytes: usize,
 }
 

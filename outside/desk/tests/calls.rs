@@ -2,10 +2,10 @@
 use desk::relay::{AN, JAM, KPG, RL, W241, W314};
 use desk::{
     check, event, export, import, read, start, test, valid, why, work, write, Entry, Exported,
-    Head, Imported, Post, Since, Verdict, Worked, SHEET, TEXT,
+    Found, Head, Imported, Post, Since, Verdict, Worked, SHEET, TEXT,
 };
 use model::paper::{EXAMPLE, KINDS, REGISTER};
-use model::{short, stuck, Listed, MOST_TEXT};
+use model::{renew_check, short, stuck, Listed, MOST_TEXT};
 
 fn is_last(row: &[Post]) -> bool {
     let (up, down) = (row[0], row[1]);
@@ -29,23 +29,19 @@ fn the_listing_event_by_event() {
 fn the_listing_as_a_sheet() {
     let (mut sheet, mut out) = ([0; 1024], [7; 1025]);
     assert_eq!(write(&KINDS, 0, &EXAMPLE.unanswered(), &mut sheet), 0);
-    assert_eq!(
-        test(&sheet),
-        Verdict {
-            number: 0,
-            block: 0
-        }
-    );
+    assert_eq!(test(&sheet), Verdict::default());
     let worked = work(&sheet, &mut out);
-    assert_eq!((worked.number, worked.block), (0, 0));
+    assert_eq!((worked.number, worked.block, worked.position), (0, 0, 0));
     assert!(is_last(worked.row.posts()));
     assert_eq!(out[1024], 7);
     let (mut kinds, mut events) = ([9; 3], [[9; 4]; 16]);
     let found = read(&out[..1024], &mut kinds, &mut events);
-    assert_eq!(
-        (found.number, found.posts, found.stamp, found.events),
-        (0, 2, 0, 15)
-    );
+    let right = Found {
+        posts: 2,
+        events: 15,
+        ..Found::default()
+    };
+    assert_eq!(found, right);
     assert_eq!(kinds, [0, 1, 9]);
     assert_eq!(events[..15], EXAMPLE.answered());
     assert_eq!(events[15], [9; 4]);
@@ -123,7 +119,7 @@ fn short_posts_as_a_sheet() {
     assert_eq!(why(&out, 3), since(29, 0, 0));
     let (mut text, mut back) = (vec![7; TEXT], [0; 1024]);
     let told = export(&out, &mut text);
-    assert_eq!((told.number, told.block), (0, 0));
+    assert_eq!((told.number, told.block, told.position), (0, 0, 0));
     assert_eq!(import(&text[..told.bytes], &mut back), imported(0, 0, 1024));
     assert_eq!(back, out);
     for kinds in [[16, 17], [0, 16], [0, 21], [0, 18], [17, 17]] {
@@ -139,7 +135,7 @@ fn the_longest_register() {
     let events = vec![[31, 63, 31, u32::MAX]; 3_780];
     let (mut sheet, mut text) = (vec![0; SHEET], vec![7; TEXT]);
     assert_eq!(write(&kinds, u32::MAX, &events, &mut sheet), 0);
-    assert_eq!(export(&sheet, &mut text), exported(0, 0, MOST_TEXT));
+    assert_eq!(export(&sheet, &mut text), exported(0, 0, 0, MOST_TEXT));
 }
 
 #[test]
@@ -153,7 +149,7 @@ fn empty_slices() {
     assert_eq!(write(&KINDS, 0, &[], &mut []), 21);
     assert_eq!(read(&[], &mut [], &mut []).number, 18);
     assert_eq!(why(&[], 1), since(18, 0, 0));
-    assert_eq!(export(&[], &mut []), exported(18, 0, 0));
+    assert_eq!(export(&[], &mut []), exported(18, 0, 0, 0));
     assert_eq!(import(&[], &mut []), imported(28, 1, 0));
     assert_eq!(import(REGISTER.as_bytes(), &mut []), imported(21, 0, 0));
 }
@@ -177,18 +173,84 @@ fn since_when_the_lever_is_locked() {
     assert_eq!(why(&sheet, 5), since(19, 1, 0));
 }
 
+fn verdict(number: u32, block: u32, position: u32) -> Verdict {
+    Verdict {
+        number,
+        block,
+        position,
+    }
+}
+
 #[test]
 fn a_bad_block_is_named() {
     let mut sheet = [0; 1024];
     write(&KINDS, 0, &EXAMPLE.unanswered(), &mut sheet);
     sheet[600] ^= 1;
+    assert_eq!(test(&sheet), verdict(19, 1, 0));
+}
+
+/// Each call that reads the sheet refuses it so, and writes nothing.
+fn refused_so(sheet: &[u8], right: Verdict) {
+    let Verdict {
+        number,
+        block,
+        position,
+    } = right;
+    assert_eq!(test(sheet), right);
+    let (mut kinds, mut events, mut out) = ([9; 32], [[9; 4]; 200], [7; 4096]);
+    let found = Found {
+        number,
+        block,
+        position,
+        ..Found::default()
+    };
+    assert_eq!(read(sheet, &mut kinds, &mut events), found);
+    let worked = work(sheet, &mut out);
+    assert_eq!((worked.number, worked.block), (number, block));
+    assert_eq!(worked.position, position);
     assert_eq!(
-        test(&sheet),
-        Verdict {
-            number: 19,
-            block: 1
-        }
+        (worked.row.posts(), worked.head),
+        (&[][..], Head::default())
     );
+    assert_eq!(why(sheet, 1), since(number, block, position));
+    assert_eq!(
+        export(sheet, &mut out),
+        exported(number, block, position, 0)
+    );
+    assert_eq!((kinds, events), ([9; 32], [[9; 4]; 200]));
+    assert!(out.iter().all(|&byte| byte == 7));
+}
+
+/// Upper bits of an event word, in a sheet of three blocks: its block and its position there.
+#[test]
+fn a_bad_field_is_named() {
+    let mut good = [0; 1536];
+    assert_eq!(write(&KINDS, 0, &[[1, 0, 31, 5]; 100], &mut good), 0);
+    assert_eq!(test(&good), Verdict::default());
+    for (block, position) in [(1, 0), (1, 59), (2, 0), (2, 17), (2, 39)] {
+        for upper in [2, 3] {
+            let (mut sheet, from) = (good, 512 * block);
+            sheet[from + 4 + 8 * position + upper] = 0x80;
+            renew_check(&mut sheet[from..from + 512], block as u32);
+            refused_so(&sheet, verdict(24, block as u32, position as u32));
+            // The count comes before it, a word that should be zero behind it.
+            sheet[from + 4 * 126] = 1;
+            renew_check(&mut sheet[from..from + 512], block as u32);
+            refused_so(&sheet, verdict(24, block as u32, position as u32));
+            sheet[from] = 61;
+            renew_check(&mut sheet[from..from + 512], block as u32);
+            refused_so(&sheet, verdict(20, block as u32, 0));
+        }
+    }
+    // An event answered already: 20 of its block, with no position.
+    let mut sheet = good;
+    sheet[1024 + 5] = 0;
+    renew_check(&mut sheet[1024..], 2);
+    let worked = work(&sheet, &mut [0; 1536]);
+    assert_eq!((worked.number, worked.block), (20, 2));
+    assert_eq!((worked.position, test(&sheet)), (0, Verdict::default()));
+    // To write, a field that would reach those bits.
+    assert_eq!(write(&KINDS, 0, &[[1, 0, 32, 5]], &mut good), 20);
 }
 
 #[test]
@@ -211,10 +273,11 @@ fn a_block_by_itself() {
     assert!(check(&block, largest) && !check(&block, u32::MAX));
 }
 
-fn exported(number: u32, block: u32, bytes: usize) -> Exported {
+fn exported(number: u32, block: u32, position: u32, bytes: usize) -> Exported {
     Exported {
         number,
         block,
+        position,
         bytes,
     }
 }
@@ -233,7 +296,7 @@ fn a_register_there_and_back() {
     assert_eq!(write(&KINDS, 0, &EXAMPLE.answered(), &mut sheet), 0);
     let mut text = vec![7; TEXT];
     let bytes = REGISTER.len();
-    assert_eq!(export(&sheet, &mut text), exported(0, 0, bytes));
+    assert_eq!(export(&sheet, &mut text), exported(0, 0, 0, bytes));
     assert_eq!(text[..bytes], *REGISTER.as_bytes());
     assert!(text[bytes..].iter().all(|&byte| byte == 7));
     let quoted = REGISTER.replace("position", "\"position\"");
@@ -249,9 +312,9 @@ fn a_register_refused() {
     let mut sheet = [0; 1024];
     assert_eq!(write(&KINDS, 0, &EXAMPLE.answered(), &mut sheet), 0);
     let mut out = vec![7; REGISTER.len() - 1];
-    assert_eq!(export(&sheet, &mut out), exported(21, 0, 0));
+    assert_eq!(export(&sheet, &mut out), exported(21, 0, 0, 0));
     sheet[600] ^= 1;
-    assert_eq!(export(&sheet, &mut out), exported(19, 1, 0));
+    assert_eq!(export(&sheet, &mut out), exported(19, 1, 0, 0));
     let wrong = REGISTER.replace("9000,12", "09000,12");
     assert_eq!(import(wrong.as_bytes(), &mut out), imported(28, 13, 0));
     assert_eq!(

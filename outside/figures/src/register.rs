@@ -28,21 +28,15 @@ fn sum(words: &[u8]) -> u32 {
     })
 }
 
-/// The refusal of a block, 0 if it is good.
-fn test(block: &Block, at: usize, last: bool) -> u32 {
+/// The number and the position of a block's refusal, zeros if it is good.
+fn test(block: &Block, at: usize, last: bool) -> (u32, u32) {
     if sum(block) != CHECK + at as u32 {
-        return 19;
+        return (19, 0);
     }
-    let right = if at == 0 {
-        is_table(block)
-    } else {
-        is_events(block, last)
-    };
-    if right {
-        0
-    } else {
-        20
+    if at > 0 {
+        return test_events(block, last);
     }
+    (if is_table(block) { 0 } else { 20 }, 0)
 }
 
 fn is_zero(block: &Block, from: usize) -> bool {
@@ -70,12 +64,15 @@ fn is_table(block: &Block) -> bool {
         && is_zero(block, 3 + posts)
 }
 
-fn is_events(block: &Block, last: bool) -> bool {
+fn test_events(block: &Block, last: bool) -> (u32, u32) {
     let count = word(block, 0) as usize;
-    (1..=EVENTS_PER_BLOCK).contains(&count)
-        && (last || count == EVENTS_PER_BLOCK)
-        && (0..count).all(|event| word(block, 1 + 2 * event) >> 16 == 0)
-        && is_zero(block, 1 + 2 * count)
+    if !(1..=EVENTS_PER_BLOCK).contains(&count) || (count < EVENTS_PER_BLOCK && !last) {
+        return (20, 0);
+    }
+    if let Some(event) = (0..count).find(|event| word(block, 1 + 2 * event) >> 16 != 0) {
+        return (24, event as u32);
+    }
+    (if is_zero(block, 1 + 2 * count) { 0 } else { 20 }, 0)
 }
 
 /// A number in decimal, and a byte behind it.
@@ -94,30 +91,30 @@ fn push(text: &mut Vec<u8>, mut number: u32, behind: u8) {
 }
 
 pub fn export(sheet: &[u8], out: &mut [u8]) -> Exported {
-    let refused = |number, block| Exported {
+    let refused = |number, block, position| Exported {
         number,
         block,
+        position,
         bytes: 0,
     };
     let (blocks, rest) = sheet.as_chunks::<BLOCK_BYTES>();
     if !rest.is_empty() || !(1..=MOST_BLOCKS).contains(&blocks.len()) {
-        return refused(18, 0);
+        return refused(18, 0, 0);
     }
     for (at, block) in blocks.iter().enumerate() {
-        let number = test(block, at, at == blocks.len() - 1);
+        let (number, position) = test(block, at, at == blocks.len() - 1);
         if number != 0 {
-            return refused(number, at as u32);
+            return refused(number, at as u32, position);
         }
     }
     let text = text_of(blocks);
     if out.len() < text.len() {
-        return refused(21, 0);
+        return refused(21, 0, 0);
     }
     out[..text.len()].copy_from_slice(&text);
     Exported {
-        number: 0,
-        block: 0,
         bytes: text.len(),
+        ..Exported::default()
     }
 }
 

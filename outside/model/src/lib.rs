@@ -25,13 +25,14 @@ pub use listed::Listed;
 pub use listing::listing;
 pub use register::{export, import, Exported, Imported, MOST_TEXT};
 pub use sheet::{
-    check, read, renew_check, sheet_length, write, Entry, Found, BLOCK_BYTES, CHECK,
-    EVENTS_PER_BLOCK, MOST_BLOCKS, MOST_EVENTS, UNANSWERED,
+    check, read, renew_check, sheet_length, test, unpack, write, Entry, Found, Verdict,
+    BLOCK_BYTES, CHECK, EVENTS_PER_BLOCK, MOST_BLOCKS, MOST_EVENTS, UNANSWERED,
 };
 pub use why::{why, Since};
 pub use working::{work, Worked};
 
-/// 01, Numbers returned; 29 by 02, item 1; 22 and 23 by 02, item 2; 28 by 02, item 3.
+/// 01, Numbers returned; 29 by 02, item 1; 22 and 23 by 02, item 2; 28 by 02, item 3; 24 by
+/// 02, item 6.
 pub mod number {
     pub const TAKEN: u32 = 0;
     pub const NOT_VALID: u32 = 1;
@@ -57,6 +58,7 @@ pub mod number {
     pub const TOO_SHORT: u32 = 21;
     pub const JAMMED: u32 = 22;
     pub const NOT_JAMMED: u32 = 23;
+    pub const UPPER_BITS: u32 = 24;
     pub const CANNOT_STAND: u32 = 28;
     pub const NOTHING_TO_TELL: u32 = 29;
 }

@@ -1,7 +1,7 @@
-//! 01, The program and one listing.
+//! 01, The program and one listing; of 02, item 6, the position in it.
 
 use crate::line::{relay, Post};
-use crate::number::TAKEN;
+use crate::number::{TAKEN, UPPER_BITS};
 use crate::sheet::{contents, Entry};
 use crate::working::work;
 
@@ -10,7 +10,7 @@ pub fn listing(sheet: &[u8]) -> String {
     let mut out = vec![0; sheet.len()];
     let worked = work(sheet, &mut out);
     if worked.number != TAKEN {
-        return refused_line(worked.number, worked.block.into());
+        return refused_sheet(worked.number, worked.block, worked.position);
     }
     let mut text = String::new();
     let events = contents(&out).map_or(Vec::new(), |found| found.events);
@@ -23,8 +23,16 @@ pub fn listing(sheet: &[u8]) -> String {
     text
 }
 
-/// "A refused sheet prints only "refused", its number and the block"; a refused register
-/// has a record in the block's place.
+/// "A refused sheet prints only "refused", its number and the block"; behind those "the event's
+/// position in the block, from 0 (printed last)" (02, item 6), which only 24 has.
+pub(crate) fn refused_sheet(number: u32, block: u32, position: u32) -> String {
+    match number {
+        UPPER_BITS => format!("refused {number} {block} {position}\n"),
+        _ => refused_line(number, block.into()),
+    }
+}
+
+/// A refusal that names a block, or of a register a record in the block's place.
 pub(crate) fn refused_line(number: u32, named: u64) -> String {
     format!("refused {number} {named}\n")
 }

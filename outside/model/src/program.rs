@@ -1,14 +1,15 @@
-//! 01, The program and one listing, and the words that 02, items 1 and 3 give the program.
+//! 01, The program and one listing, and the words that 02, items 1 and 3 give the program. Each
+//! of them that reads a sheet prints its refusal as the listing does.
 
 use std::io::{self, Read, Write};
 
 use crate::decimal::decimal;
-use crate::listing::{event_line, listing, refused_line};
+use crate::listing::{event_line, listing, refused_line, refused_sheet};
 use crate::number::TAKEN;
-use crate::register::{export, import, MOST_TEXT};
+use crate::register::{export, import, Exported, Imported, MOST_TEXT};
 use crate::sheet::{contents, BLOCK_BYTES, MOST_BLOCKS};
 use crate::why::why;
-use crate::working::work;
+use crate::working::{work, Worked};
 
 /// What the program says on standard error, each time alone.
 pub const USAGE: &str = "usage: desk [work | why POSITION | export | import] <INPUT\n";
@@ -64,35 +65,44 @@ pub fn asked(words: &[&str]) -> Option<Asked> {
 pub fn wrote(asked: Asked, input: &[u8]) -> Wrote {
     match asked {
         Asked::Listing => Wrote::printing(&listing(input)),
-        Asked::Worked => made(input.len(), |out| {
-            let worked = work(input, out);
-            (worked.number, worked.block.into(), input.len())
+        Asked::Worked => made(input.len(), |out| match work(input, out) {
+            Worked { number: TAKEN, .. } => Ok(input.len()),
+            told => Err(refused_sheet(told.number, told.block, told.position)),
         }),
         Asked::Why(position) => Wrote::printing(&why_text(input, position)),
-        Asked::Exported => made(MOST_TEXT, |out| {
-            let exported = export(input, out);
-            (exported.number, exported.block.into(), exported.bytes)
+        Asked::Exported => made(MOST_TEXT, |out| match export(input, out) {
+            Exported {
+                number: TAKEN,
+                bytes,
+                ..
+            } => Ok(bytes),
+            told => Err(refused_sheet(told.number, told.block, told.position)),
         }),
-        Asked::Imported => made(MOST_BLOCKS * BLOCK_BYTES, |out| {
-            let imported = import(input, out);
-            (imported.number, imported.record, imported.bytes)
+        Asked::Imported => made(MOST_BLOCKS * BLOCK_BYTES, |out| match import(input, out) {
+            Imported {
+                number: TAKEN,
+                bytes,
+                ..
+            } => Ok(bytes),
+            told => Err(refused_line(told.number, told.record)),
         }),
     }
 }
 
-/// The bytes that a call makes in a room of this size; it gives its number, its block or
-/// record, and how many they are. A refusal is said on standard error, since standard
-/// output is the sheet or the text.
-fn made(room: usize, call: impl Fn(&mut [u8]) -> (u32, u64, usize)) -> Wrote {
+/// The bytes that a call makes in a room of this size; it gives how many they are, or the line
+/// of its refusal, which is said on standard error, since standard output is the sheet or the
+/// text.
+fn made(room: usize, call: impl Fn(&mut [u8]) -> Result<usize, String>) -> Wrote {
     let mut printed = vec![0; room];
-    let (number, named, bytes) = call(&mut printed);
-    if number != TAKEN {
-        return Wrote::saying(&refused_line(number, named));
-    }
-    printed.truncate(bytes);
-    Wrote {
-        printed,
-        said: String::new(),
+    match call(&mut printed) {
+        Err(refused) => Wrote::saying(&refused),
+        Ok(bytes) => {
+            printed.truncate(bytes);
+            Wrote {
+                printed,
+                said: String::new(),
+            }
+        }
     }
 }
 
@@ -100,7 +110,7 @@ fn made(room: usize, call: impl Fn(&mut [u8]) -> (u32, u64, usize)) -> Wrote {
 fn why_text(sheet: &[u8], position: u32) -> String {
     let since = why(sheet, position);
     if since.number != TAKEN {
-        return refused_line(since.number, since.block.into());
+        return refused_sheet(since.number, since.block, since.position);
     }
     let events = contents(sheet).map_or(Vec::new(), |found| found.events);
     match since.position {

@@ -5,14 +5,26 @@ use crate::comma::{records, Field};
 use crate::decimal::decimal;
 use crate::line::kind;
 use crate::number::{CANNOT_STAND, TAKEN, TOO_SHORT};
-use crate::sheet::{contents, in_its_field, sheet_length, write, Contents};
+use crate::sheet::{contents, in_its_field, sheet_length, write, Contents, Verdict};
 
-/// What an export returns. A refusal: its number and block, and 0 bytes.
+/// What an export returns. A refusal: its number, block and position, and 0 bytes.
 #[derive(Clone, Copy, Debug, Default, PartialEq, Eq)]
 pub struct Exported {
     pub number: u32,
     pub block: u32,
+    pub position: u32,
     pub bytes: usize,
+}
+
+impl From<Verdict> for Exported {
+    fn from(refused: Verdict) -> Self {
+        Exported {
+            number: refused.number,
+            block: refused.block,
+            position: refused.position,
+            bytes: 0,
+        }
+    }
 }
 
 /// What an import returns. A refusal: its number, the record that 28 names (else 0), and
@@ -35,24 +47,18 @@ const LAST_POST: usize = 31;
 
 /// "Refusals: export as for reading, then 21."
 pub fn export(sheet: &[u8], out: &mut [u8]) -> Exported {
-    let refusal = |number, block| Exported {
-        number,
-        block,
-        bytes: 0,
-    };
     let found = match contents(sheet) {
         Ok(found) => found,
-        Err(refused) => return refusal(refused.number, refused.block),
+        Err(refused) => return refused.into(),
     };
     let text = text_of(&found);
     if out.len() < text.len() {
-        return refusal(TOO_SHORT, 0);
+        return Verdict::of(TOO_SHORT, 0).into();
     }
     out[..text.len()].copy_from_slice(text.as_bytes());
     Exported {
-        number: TAKEN,
-        block: 0,
         bytes: text.len(),
+        ..Exported::default()
     }
 }
 

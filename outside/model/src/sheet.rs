@@ -1,4 +1,4 @@
-//! 01, The event sheet: layout, reading, writing.
+//! 01, The event sheet: layout, reading, writing; of 02, item 6, which field is bad.
 
 use crate::line::kinds_right;
 use crate::number::*;
@@ -21,11 +21,33 @@ pub type Entry = [u32; 4];
 
 type Block = [u32; WORDS];
 
-/// What a reading returns. A refusal: its number and block, and zeros.
+/// A sheet's refusal: its number, the block that it names and, where it is 24, "the event's
+/// position in the block, from 0" (02, item 6); 0 for any other number. Zeros where nothing is
+/// refused.
+#[derive(Clone, Copy, Debug, Default, PartialEq, Eq)]
+pub struct Verdict {
+    pub number: u32,
+    pub block: u32,
+    pub position: u32,
+}
+
+impl Verdict {
+    /// A refusal without a position.
+    pub(crate) fn of(number: u32, block: u32) -> Self {
+        Verdict {
+            number,
+            block,
+            position: 0,
+        }
+    }
+}
+
+/// What a reading returns. A refusal: its number, block and position, and zeros.
 #[derive(Clone, Copy, Debug, Default, PartialEq, Eq)]
 pub struct Found {
     pub number: u32,
     pub block: u32,
+    pub position: u32,
     pub posts: u32,
     pub stamp: u32,
     pub events: u32,
@@ -39,71 +61,66 @@ pub(crate) struct Contents {
     pub events: Vec<Entry>,
 }
 
-/// The number and the block of a refusal.
-pub(crate) struct Refused {
-    pub number: u32,
-    pub block: u32,
+impl From<Verdict> for Found {
+    fn from(refused: Verdict) -> Self {
+        Found {
+            number: refused.number,
+            block: refused.block,
+            position: refused.position,
+            ..Found::default()
+        }
+    }
+}
+
+/// What reading says of a sheet, whatever the rooms are.
+pub fn test(sheet: &[u8]) -> Verdict {
+    contents(sheet).err().unwrap_or_default()
 }
 
 /// Good: the fronts of both rooms are filled, the rest stays. Refused: both stay.
 pub fn read(sheet: &[u8], kinds: &mut [u32], events: &mut [Entry]) -> Found {
-    let refusal = |number, block| Found {
-        number,
-        block,
-        ..Found::default()
-    };
     let contents = match contents(sheet) {
         Ok(contents) => contents,
-        Err(refused) => return refusal(refused.number, refused.block),
+        Err(refused) => return refused.into(),
     };
     let (posts, count) = (contents.kinds.len(), contents.events.len());
     // "room too short for them gives 21, last"
     if kinds.len() < posts || events.len() < count {
-        return refusal(TOO_SHORT, 0);
+        return Verdict::of(TOO_SHORT, 0).into();
     }
     kinds[..posts].copy_from_slice(&contents.kinds);
     events[..count].copy_from_slice(&contents.events);
     Found {
-        number: TAKEN,
-        block: 0,
         posts: posts as u32,
         stamp: contents.stamp,
         events: count as u32,
+        ..Found::default()
     }
 }
 
 /// "Reading tests the length (18), then each block in turn, check before contents,
 /// and stops at once at the first bad block, naming it."
-pub(crate) fn contents(sheet: &[u8]) -> Result<Contents, Refused> {
+pub(crate) fn contents(sheet: &[u8]) -> Result<Contents, Verdict> {
     let blocks = sheet.len() / BLOCK_BYTES;
     if !sheet.len().is_multiple_of(BLOCK_BYTES) || !(1..=MOST_BLOCKS).contains(&blocks) {
-        return Err(Refused {
-            number: LENGTH,
-            block: 0,
-        });
+        return Err(Verdict::of(LENGTH, 0));
     }
     let mut found = Contents {
         kinds: Vec::new(),
         stamp: 0,
         events: Vec::new(),
     };
-    for (at, bytes) in sheet.chunks(BLOCK_BYTES).enumerate() {
-        let refused = |number| Refused {
-            number,
-            block: at as u32,
-        };
-        if !check(bytes, at as u32) {
-            return Err(refused(CHECK_WRONG));
+    for (at, bytes) in (0..).zip(sheet.chunks(BLOCK_BYTES)) {
+        if !check(bytes, at) {
+            return Err(Verdict::of(CHECK_WRONG, at));
         }
         let block = words(bytes);
-        let right = if at == 0 {
-            read_table(&block, &mut found)
-        } else {
-            read_events(&block, at == blocks - 1, &mut found)
+        let is_last = at as usize == blocks - 1;
+        let wrong = match at {
+            0 => read_table(&block, &mut found),
+            _ => read_events(&block, is_last, &mut found),
         };
-        if !right {
-            return Err(refused(CONTENTS));
-        }
+        wrong.map_err(|wrong| Verdict { block: at, ..wrong })?;
     }
     Ok(found)
 }
@@ -118,41 +135,51 @@ pub fn check(block: &[u8], number: u32) -> bool {
 
 /// Block 0: "word 0 is 1, word 1 is N, word 2 the start stamp, words 3 onward the N
 /// kinds; the rest up to word 126 are zero", and N and the kinds are such as
-/// starting would not refuse. False when it departs from this.
-fn read_table(block: &Block, found: &mut Contents) -> bool {
-    if block[0] != 1 || !(2..=32).contains(&block[1]) {
-        return false;
-    }
+/// starting would not refuse. Refused when it departs from this, the block not yet named.
+fn read_table(block: &Block, found: &mut Contents) -> Result<(), Verdict> {
+    required(block[0] == 1 && (2..=32).contains(&block[1]))?;
     let end = 3 + block[1] as usize;
     found.stamp = block[2];
     found.kinds = block[3..end].to_vec();
-    kinds_right(&found.kinds) && all_zero(&block[end..CHECK_WORD])
+    required(kinds_right(&found.kinds) && all_zero(&block[end..CHECK_WORD]))
 }
 
 /// A later block: "word 0 is the number m of events, 1 to 60; event j (from 0) has
 /// its word at 1+2j and its stamp at 2+2j; the rest up to word 126 are zero. All
-/// but the last of these hold 60." False when it departs from this.
-fn read_events(block: &Block, is_last: bool, found: &mut Contents) -> bool {
+/// but the last of these hold 60." Refused when it departs from this, the block not yet named:
+/// "24 for those bits, after 20 for the count m and before 20 for words that should be zero"
+/// (02, item 6).
+fn read_events(block: &Block, is_last: bool, found: &mut Contents) -> Result<(), Verdict> {
     let most = EVENTS_PER_BLOCK as u32;
     let m = block[0];
-    if !(1..=most).contains(&m) || (!is_last && m != most) {
-        return false;
-    }
+    required((1..=most).contains(&m) && (is_last || m == most))?;
     for j in 0..m as usize {
-        let word = block[1 + 2 * j];
-        // "bits 16 to 31 are zero"
-        if word >> 16 != 0 {
-            return false;
-        }
-        let [number, post, answer] = unpack(word);
+        let Some([number, post, answer]) = unpack(block[1 + 2 * j]) else {
+            return Err(Verdict {
+                number: UPPER_BITS,
+                block: 0,
+                position: j as u32,
+            });
+        };
         found.events.push([number, post, answer, block[2 + 2 * j]]);
     }
-    all_zero(&block[1 + 2 * m as usize..CHECK_WORD])
+    required(all_zero(&block[1 + 2 * m as usize..CHECK_WORD]))
 }
 
-/// "The event number in bits 0 to 4, post in bits 5 to 10, answer in bits 11 to 15."
-fn unpack(word: u32) -> [u32; 3] {
-    [word & 31, (word >> 5) & 63, (word >> 11) & 31]
+/// 20 unless this holds.
+fn required(holds: bool) -> Result<(), Verdict> {
+    match holds {
+        true => Ok(()),
+        false => Err(Verdict::of(CONTENTS, 0)),
+    }
+}
+
+/// "The event number in bits 0 to 4, post in bits 5 to 10, answer in bits 11 to 15; bits 16 to
+/// 31 are zero." No fields when its upper sixteen bits are not zero: "unpacking an event word
+/// should say" so (02, item 6).
+pub fn unpack(word: u32) -> Option<[u32; 3]> {
+    let upper = word >> 16;
+    (upper == 0).then_some([word & 31, (word >> 5) & 63, (word >> 11) & 31])
 }
 
 fn pack(number: u32, post: u32, answer: u32) -> u32 {

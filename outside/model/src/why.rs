@@ -2,10 +2,11 @@
 
 use crate::line::relay::{L, RL};
 use crate::number::{LEVER_LOCKED, NOTHING_TO_TELL, RL_DOWN, RL_UP_ONWARD, TAKEN};
-use crate::sheet::contents;
+use crate::sheet::{contents, Verdict};
 use crate::working::take_events;
 
-/// What a question returns. A refusal: its number and block, and position 0.
+/// What a question returns: 0, 0 and the position of the event that is named, in the sheet,
+/// from 1. A refusal: its number, its block and its position in that block, from 0.
 #[derive(Clone, Copy, Debug, Default, PartialEq, Eq)]
 pub struct Since {
     pub number: u32,
@@ -13,11 +14,13 @@ pub struct Since {
     pub position: u32,
 }
 
-fn refusal(number: u32, block: u32) -> Since {
-    Since {
-        number,
-        block,
-        position: 0,
+impl From<Verdict> for Since {
+    fn from(refused: Verdict) -> Self {
+        Since {
+            number: refused.number,
+            block: refused.block,
+            position: refused.position,
+        }
     }
 }
 
@@ -28,8 +31,9 @@ fn refusal(number: u32, block: u32) -> Since {
 pub fn why(sheet: &[u8], position: u32) -> Since {
     let found = match contents(sheet) {
         Ok(found) => found,
-        Err(refused) => return refusal(refused.number, refused.block),
+        Err(refused) => return refused.into(),
     };
+    let nothing = Since::from(Verdict::of(NOTHING_TO_TELL, 0));
     let mut worked = found.clone();
     let mut lines: Vec<Vec<u32>> = Vec::new();
     take_events(&mut worked, |row| {
@@ -37,7 +41,7 @@ pub fn why(sheet: &[u8], position: u32) -> Since {
     });
     let before = (position as usize).checked_sub(1);
     let Some([_, post, answer, _]) = before.and_then(|at| found.events.get(at)) else {
-        return refusal(NOTHING_TO_TELL, 0);
+        return nothing;
     };
     match state_told(*answer) {
         Some((relay, up)) if worked.events == found.events => Since {
@@ -45,7 +49,7 @@ pub fn why(sheet: &[u8], position: u32) -> Since {
             block: 0,
             position: last_change(&lines[..position as usize], *post as usize, relay, up),
         },
-        _ => refusal(NOTHING_TO_TELL, 0),
+        _ => nothing,
     }
 }
 

@@ -3,23 +3,27 @@
 use crate::events::event;
 use crate::line::{start, Head, Post};
 use crate::number::{CONTENTS, TAKEN, TOO_SHORT};
-use crate::sheet::{contents, write, Contents, EVENTS_PER_BLOCK, UNANSWERED};
+use crate::sheet::{contents, write, Contents, Verdict, EVENTS_PER_BLOCK, UNANSWERED};
 
-/// What a working returns, beside the output. A refusal: its number and block, an
-/// empty row and a head of zeros.
+/// What a working returns, beside the output. A refusal: its number, block and position,
+/// an empty row and a head of zeros.
 #[derive(Clone, Debug, Default, PartialEq, Eq)]
 pub struct Worked {
     pub number: u32,
     pub block: u32,
+    pub position: u32,
     pub row: Vec<Post>,
     pub head: Head,
 }
 
-fn refusal(number: u32, block: u32) -> Worked {
-    Worked {
-        number,
-        block,
-        ..Worked::default()
+impl From<Verdict> for Worked {
+    fn from(refused: Verdict) -> Self {
+        Worked {
+            number: refused.number,
+            block: refused.block,
+            position: refused.position,
+            ..Worked::default()
+        }
     }
 }
 
@@ -30,23 +34,22 @@ fn refusal(number: u32, block: u32) -> Worked {
 pub fn work(sheet: &[u8], out: &mut [u8]) -> Worked {
     let mut found = match contents(sheet) {
         Ok(found) => found,
-        Err(refused) => return refusal(refused.number, refused.block),
+        Err(refused) => return refused.into(),
     };
     if let Some(at) = found.events.iter().position(|e| e[2] != UNANSWERED) {
         // Block 0 is the table; every later block but the last holds 60 events.
-        return refusal(CONTENTS, (1 + at / EVENTS_PER_BLOCK) as u32);
+        return Verdict::of(CONTENTS, (1 + at / EVENTS_PER_BLOCK) as u32).into();
     }
     if out.len() < sheet.len() {
-        return refusal(TOO_SHORT, 0);
+        return Verdict::of(TOO_SHORT, 0).into();
     }
     let (row, head) = take_events(&mut found, |_| ());
     let number = write(&found.kinds, found.stamp, &found.events, out);
     assert_eq!(number, TAKEN, "a sheet that was read can be written");
     Worked {
-        number,
-        block: 0,
         row,
         head,
+        ..Worked::default()
     }
 }
 

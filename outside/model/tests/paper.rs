@@ -2,17 +2,9 @@
 
 mod common;
 
-use common::{fifteen, fresh, sheet};
+use common::{fifteen, fresh, set_word, sheet, word};
 use model::number::*;
 use model::*;
-
-fn word(bytes: &[u8], at: usize) -> u32 {
-    u32::from_le_bytes(bytes[4 * at..4 * at + 4].try_into().unwrap())
-}
-
-fn set_word(bytes: &mut [u8], at: usize, word: u32) {
-    bytes[4 * at..4 * at + 4].copy_from_slice(&word.to_le_bytes());
-}
 
 fn refused(number: u32, block: u32) -> Found {
     Found {

@@ -26,9 +26,10 @@ fn exported(sheet: &[u8]) -> String {
     let Exported {
         number,
         block,
+        position,
         bytes,
     } = export(sheet, &mut out);
-    assert_eq!((number, block), (0, 0));
+    assert_eq!((number, block, position), (0, 0, 0));
     assert!(out[bytes..].iter().all(|&byte| byte == 7));
     String::from_utf8(out[..bytes].to_vec()).expect("a text")
 }
@@ -320,8 +321,8 @@ fn then_the_room() {
         let bytes = if number == 0 { length } else { 0 };
         let right = Exported {
             number,
-            block: 0,
             bytes,
+            ..Exported::default()
         };
         assert_eq!(told, right, "{room}");
         assert!(out[bytes..].iter().all(|&byte| byte == 7));

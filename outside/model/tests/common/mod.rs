@@ -14,6 +14,15 @@ pub fn sheet(kinds: &[u32], stamp: u32, events: &[Entry]) -> Vec<u8> {
     out
 }
 
+/// The word at this place, counted from the front of the sheet.
+pub fn word(bytes: &[u8], at: usize) -> u32 {
+    u32::from_le_bytes(bytes[4 * at..4 * at + 4].try_into().unwrap())
+}
+
+pub fn set_word(bytes: &mut [u8], at: usize, word: u32) {
+    bytes[4 * at..4 * at + 4].copy_from_slice(&word.to_le_bytes());
+}
+
 pub fn fifteen() -> Vec<u8> {
     sheet(&paper::KINDS, 0, &paper::EXAMPLE.unanswered())
 }
