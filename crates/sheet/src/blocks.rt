@@ -3,7 +3,7 @@ ghost use mathlib.Core.Path.{_≡_};
 ghost use Prim.Native.Nat.{_+_, _*_, _≤_, _<_};
 ghost use lib.ListN.{length};
 ghost use Rattle.relay.specs.Kinds.{tableOk};
-ghost use Rattle.sheet.specs.Reading.{lengthOk, kindsIn, eventsFit, firstBad};
+ghost use Rattle.sheet.specs.Reading.{lengthOk, kindsIn, eventsFit, verdictAt, firstBad};
 ghost use Rattle.sheet.specs.Shape.{shapeOf};
 ghost use Rattle.sheet.specs.Layout.{blockBytes, mostBlocks};
 use crate::Verdict;
@@ -98,6 +98,17 @@ pub fn events_fit(m: usize, last: bool) -> bool
     (1 <= m) & (m <= PER_BLOCK) & (last | (m == PER_BLOCK))
 }
 
+// A refusal, its block and the event's position in it; or zeros.
+pub fn verdict(number: u32, block: u32, position: u32) -> Verdict
+    ensures { λ r. ⌜ r ≡ verdictAt number block position ⌝ }
+{
+    Verdict {
+        number: number,
+        block: block,
+        position: position,
+    }
+}
+
 // The first bad block of the `n` blocks of `s`, with 19, 20 or 24; check before contents. 0 and 0 where all are good.
 pub fn first_bad(s: &[u8], n: u32) -> Verdict
     requires { ⌜ (n ≤ mostBlocks) × (n * blockBytes ≤ length (now s)) ⌝ }
@@ -106,49 +117,29 @@ pub fn first_bad(s: &[u8], n: u32) -> Verdict
     let mut b: u32 = 0;
     'blocks: loop {
         if n <= b {
-            break 'blocks Verdict {
-                number: 0,
-                block: 0,
-                position: 0,
-            };
+            break 'blocks verdict(0, 0, 0);
         }
         let at = b as usize * BLOCK_BYTES;
         if !words::checks_as(s, b as usize, b) {
-            break 'blocks Verdict {
-                number: CHECK_WRONG,
-                block: b,
-                position: 0,
-            };
+            break 'blocks verdict(CHECK_WRONG, b, 0);
         }
         let shape = shape_of(s, n, b);
         if !shape.ok {
-            break 'blocks Verdict {
-                number: CONTENTS_WRONG,
-                block: b,
-                position: 0,
-            };
+            break 'blocks verdict(CONTENTS_WRONG, b, 0);
         }
         let events = shape.events;
         let mut j: usize = 0;
         while j < events {
-            let Unpacked::Fields(_, _, _) = entry::unpack(words::get_word(s, at + (1 + j * 2) * 4))
-            else {
-                break 'blocks Verdict {
-                    number: UPPER_BITS,
-                    block: b,
-                    position: j as u32,
-                };
+            let w = words::get_word(s, at + (1 + j * 2) * 4);
+            let Unpacked::Fields(_, _, _) = entry::unpack(w) else {
+                break 'blocks verdict(UPPER_BITS, b, j as u32);
             };
             j += 1;
         }
         let mut k = shape.used;
         while k < CHECK_AT {
             if words::get_word(s, at + k * 4) != 0 {
-                break 'blocks Verdict {
-                    number: CONTENTS_WRONG,
-                    block: b,
-                    position: 0,
-                };
+                break 'blocks verdict(CONTENTS_WRONG, b, 0);
             }
             k += 1;
         }

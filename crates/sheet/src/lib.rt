@@ -54,11 +54,7 @@ pub fn test(s: &[u8]) -> Verdict
 {
     let n = s.len();
     if !blocks::length_ok(n) {
-        return Verdict {
-            number: LENGTH_WRONG,
-            block: 0,
-            position: 0,
-        };
+        return blocks::verdict(LENGTH_WRONG, 0, 0);
     }
     blocks::first_bad(s, (n / BLOCK_BYTES) as u32)
 }

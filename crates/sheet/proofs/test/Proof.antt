@@ -22,8 +22,12 @@ right c = sym (c .before .length-ok .ensures) ∙ not-false _ (c .if1 .left)
 blocks : (c : tie.Else1) → Whole (length (c .before .before .before .args .s .now))
 blocks c = whole _ (right c)
 
+verdict-requires : tie.Need-verdict-requires
+verdict-requires c κs = search tests
+
 returns : tie.Need-returns
-returns c = sym (wrong-length _ (sym (c .before .length-ok .ensures) ∙ not-true _ (c .if1 .taken)))
+returns c =
+    c .verdict .ensures ∙ sym (wrong-length _ (sym (c .before .before .length-ok .ensures) ∙ not-true _ (c .before .if1 .taken)))
 
 cast-first-bad : tie.Need-cast-first-bad
 cast-first-bad c = record { fits = omega (arith, blocks c .most) }
@@ -36,4 +40,4 @@ returns-2 c = c .first-bad .ensures ∙ sym (right-length _ (right (c .before)))
 
 pub test-spec : {M : Type 1} → statement M
 test-spec =
-    tie.close (tie.spec length-ok-requires returns cast-first-bad first-bad-requires returns-2)
+    tie.close (tie.spec length-ok-requires verdict-requires returns cast-first-bad first-bad-requires returns-2)

@@ -58,6 +58,10 @@ within c = rw (c .before .before .shape-of .ensures) (shape-inside _ _ _ (shaped
 blocks2-holds : tie.Need-blocks2-holds Inv-loop μ-loop Inv-loop2 μ-loop2 Inv-blocks2 μ-blocks2
 blocks2-holds c = (search tests, rw sub-zero)
 
+verdict-requires :
+    tie.Need-verdict-requires Inv-loop μ-loop Inv-loop2 μ-loop2 Inv-blocks2 μ-blocks2
+verdict-requires c κs = search tests
+
 cast-at : tie.Need-cast-at Inv-loop μ-loop Inv-loop2 μ-loop2 Inv-blocks2 μ-blocks2
 cast-at c = search tests
 
@@ -71,9 +75,17 @@ checks-as-requires :
     tie.Need-checks-as-requires Inv-loop μ-loop Inv-loop2 μ-loop2 Inv-blocks2 μ-blocks2
 checks-as-requires c κs = search tests
 
+verdict-requires-2 :
+    tie.Need-verdict-requires-2 Inv-loop μ-loop Inv-loop2 μ-loop2 Inv-blocks2 μ-blocks2
+verdict-requires-2 c κs = search tests
+
 shape-of-requires :
     tie.Need-shape-of-requires Inv-loop μ-loop Inv-loop2 μ-loop2 Inv-blocks2 μ-blocks2
 shape-of-requires c κs = search tests
+
+verdict-requires-3 :
+    tie.Need-verdict-requires-3 Inv-loop μ-loop Inv-loop2 μ-loop2 Inv-blocks2 μ-blocks2
+verdict-requires-3 c κs = search tests
 
 loop-holds : tie.Need-loop-holds Inv-loop μ-loop Inv-loop2 μ-loop2 Inv-blocks2 μ-blocks2
 loop-holds c = (search tests, within c .events, rw sub-zero)
@@ -103,8 +115,12 @@ enum-told c = search tests
 enum-told-2 : tie.Need-enum-told-2 Inv-loop μ-loop Inv-loop2 μ-loop2 Inv-blocks2 μ-blocks2
 enum-told-2 c = search tests
 
-cast-t20 : tie.Need-cast-t20 Inv-loop μ-loop Inv-loop2 μ-loop2 Inv-blocks2 μ-blocks2
-cast-t20 c = search tests
+cast-verdict : tie.Need-cast-verdict Inv-loop μ-loop Inv-loop2 μ-loop2 Inv-blocks2 μ-blocks2
+cast-verdict c = search tests
+
+verdict-requires-4 :
+    tie.Need-verdict-requires-4 Inv-loop μ-loop Inv-loop2 μ-loop2 Inv-blocks2 μ-blocks2
+verdict-requires-4 c κs = search tests
 
 add-j : tie.Need-add-j Inv-loop μ-loop Inv-loop2 μ-loop2 Inv-blocks2 μ-blocks2
 add-j c = search tests
@@ -133,6 +149,10 @@ add-get-word-3 c = search tests
 get-word-requires-2 :
     tie.Need-get-word-requires-2 Inv-loop μ-loop Inv-loop2 μ-loop2 Inv-blocks2 μ-blocks2
 get-word-requires-2 c κs = search tests
+
+verdict-requires-5 :
+    tie.Need-verdict-requires-5 Inv-loop μ-loop Inv-loop2 μ-loop2 Inv-blocks2 μ-blocks2
+verdict-requires-5 c κs = search tests
 
 add-k : tie.Need-add-k Inv-loop μ-loop Inv-loop2 μ-loop2 Inv-blocks2 μ-blocks2
 add-k c = search tests
@@ -171,42 +191,52 @@ blocks2-again c =
 
 returns : tie.Need-returns Inv-loop μ-loop Inv-loop2 μ-loop2 Inv-blocks2 μ-blocks2
 returns c =
-    let o = c .before in
+    let o = c .before .before in
     let a = o .before .before .args in
-    sym (no-more (a .s .now) (a .n) (o .blocks2 .b) (c .if1 .taken)) ∙ o .blocks2 .inv .1
+    c .verdict .ensures ∙ sym (no-more (a .s .now) (a .n) (o .blocks2 .b) (c .before .if1 .taken)) ∙ o .blocks2 .inv .1
 
 returns-2 : tie.Need-returns-2 Inv-loop μ-loop Inv-loop2 μ-loop2 Inv-blocks2 μ-blocks2
 returns-2 c =
-    let o = c .before .before .before in
+    let d = c .before in
+    let o = d .before .before .before in
     let a = o .before .before .args in
-    sym (bad-check (a .s .now) (a .n) (o .blocks2 .b) (omega arith) (sym (c .before .checks-as .ensures) ∙ not-true _ (c .if2 .taken))) ∙ o .blocks2 .inv .1
+    c .verdict2 .ensures
+    ∙ sym (bad-check (a .s .now) (a .n) (o .blocks2 .b) (omega arith) (sym (d .before .checks-as .ensures) ∙ not-true _ (d .if2 .taken)))
+    ∙ o .blocks2 .inv .1
 
 returns-3 : tie.Need-returns-3 Inv-loop μ-loop Inv-loop2 μ-loop2 Inv-blocks2 μ-blocks2
-returns-3 c = named (c .before .before .before) _ (rw (← c .before .before .shape-of .ensures) (wrong-shape _ _ _ (not-true (c .before .before .shape-of .result .ok) (c .if3 .taken))))
+returns-3 c =
+    let d = c .before in
+    c .verdict3 .ensures
+    ∙ named (d .before .before .before) _ (rw (← d .before .before .shape-of .ensures) (wrong-shape _ _ _ (not-true (d .before .before .shape-of .result .ok) (d .if3 .taken))))
 
 returns-4 : tie.Need-returns-4 Inv-loop μ-loop Inv-loop2 μ-loop2 Inv-blocks2 μ-blocks2
 returns-4 c =
-    let l = c .before .before .before .before .before in
+    let d = c .before in
+    let l = d .before .before .before .before .before in
     let e = l .before in
     let o = e .before .before .before .before .before .before in
     let s = o .before .before .args .s .now in
     let bad : upperZero (word s (o .blocks2 .b) (1 + l .loop .j * 2)) ≡ false =
-    rw (← c .before .before .before .get-word .ensures) (told-upper _ _ (c .before .before .unpack .ensures) (c .enum-told2 .given .1)) in
+    rw (← d .before .before .before .get-word .ensures) (told-upper _ _ (d .before .before .unpack .ensures) (d .enum-told2 .given .1)) in
     let first : firstUpper s (o .blocks2 .b) 0 (e .before .before .shape-of .result .events) ≡ l .loop .j =
     sym (l .loop .inv .2) ∙ entries-bad s (o .blocks2 .b) _ (l .loop .j) (omega arith) bad in
-    named (e .before .before .before) _ (rw (← e .before .before .shape-of .ensures) (wrong-entry _ _ _ (not-false (e .before .before .shape-of .result .ok) (e .if3 .left)) _ first (omega arith)))
+    c .verdict4 .ensures
+    ∙ named (e .before .before .before) _ (rw (← e .before .before .shape-of .ensures) (wrong-entry _ _ _ (not-false (e .before .before .shape-of .result .ok) (e .if3 .left)) _ first (omega arith)))
 
 returns-5 : tie.Need-returns-5 Inv-loop μ-loop Inv-loop2 μ-loop2 Inv-blocks2 μ-blocks2
 returns-5 c =
-    let l = c .before .before .before in
+    let d = c .before in
+    let l = d .before .before .before in
     let j = l .before .before in
     let e = j .before in
     let o = e .before .before .before .before .before .before in
     let s = o .before .before .args .s .now in
     let entries = entries-done s (o .blocks2 .b) (e .before .before .shape-of .result .events) (j .loop .j) (omega arith) (omega arith) (j .loop .inv .2) in
     let none : zeros s (o .blocks2 .b) (e .before .before .shape-of .result .used) (127 - e .before .before .shape-of .result .used) ≡ false =
-    sym (l .loop2 .inv .1) ∙ zeros-bad s (o .blocks2 .b) 127 (l .loop2 .k) (omega arith) (λ z. c .if4 .taken (c .before .get-word2 .ensures ∙ z)) in
-    named (e .before .before .before) _ (rw (← e .before .before .shape-of .ensures) (wrong-zero _ _ _ (not-false (e .before .before .shape-of .result .ok) (e .if3 .left)) entries none))
+    sym (l .loop2 .inv .1) ∙ zeros-bad s (o .blocks2 .b) 127 (l .loop2 .k) (omega arith) (λ z. d .if4 .taken (d .before .get-word2 .ensures ∙ z)) in
+    c .verdict5 .ensures
+    ∙ named (e .before .before .before) _ (rw (← e .before .before .shape-of .ensures) (wrong-zero _ _ _ (not-false (e .before .before .shape-of .result .ok) (e .if3 .left)) entries none))
 
 pub first-bad-spec : {M : Type 1} → statement M
 first-bad-spec =
@@ -219,11 +249,14 @@ first-bad-spec =
     Inv-blocks2
     μ-blocks2
     blocks2-holds
+    verdict-requires
     cast-at
     mul-at
     cast-checks-as
     checks-as-requires
+    verdict-requires-2
     shape-of-requires
+    verdict-requires-3
     loop-holds
     mul-get-word
     add-get-word
@@ -233,7 +266,8 @@ first-bad-spec =
     unpack-requires
     enum-told
     enum-told-2
-    cast-t20
+    cast-verdict
+    verdict-requires-4
     add-j
     loop-less
     loop-again
@@ -241,6 +275,7 @@ first-bad-spec =
     mul-get-word-3
     add-get-word-3
     get-word-requires-2
+    verdict-requires-5
     add-k
     loop2-less
     loop2-again
