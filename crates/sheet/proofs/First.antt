@@ -175,6 +175,14 @@ good-blocks s = (
 )
 
 -- ---- 02, item 6: by the number
+-- the position is 0 where no event is named
+pub named-none : (s : List ℕ) (v : Verdict) → NamedSheet s v → (v .number ≡ upperBits → ⊥) → v .position ≡ 0
+named-none s v (bad-length e) h = refl
+named-none s v (blocks e (all-good f)) h = refl
+named-none s v (blocks e (bad-check x a y f c)) h = refl
+named-none s v (blocks e (bad-contents x a y f c d (upper p u))) h = absurd (h refl)
+named-none s v (blocks e (bad-contents x a y f c d (other u))) h = refl
+
 module _ (s : List ℕ) where
   abbrev n : ℕ
   n = blocksIn (length s)

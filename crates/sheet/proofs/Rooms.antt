@@ -15,8 +15,9 @@ use Rattle.sheet.specs.Layout.{mostEntries, perBlock, roomShort}
 use Rattle.sheet.specs.Words.{tab}
 use Rattle.sheet.specs.Check.{word}
 use Rattle.sheet.specs.Sheet.{Sheet}
-use Rattle.sheet.specs.Reading.{kindsIn, blocksIn, verdict, verdictOf, entriesIn, entryIn, NoUpper, decode, refused, found, roomFor, readOf, handed, Reads}
+use Rattle.sheet.specs.Reading.{kindsIn, blocksIn, verdict, verdictOf, entriesIn, entryIn, decode, refused, found, roomFor, readOf, handed, Reads}
 use Rattle.sheet.specs.Writing.{bytesFor}
+use Rattle.sheet.specs.Shape.{NoUpper}
 use Rattle.sheet.specs.declared.Verdict.{Verdict}
 use Rattle.sheet.specs.declared.Found.{Found}
 use Rattle.sheet.proofs.Accepts.{accepted-good}

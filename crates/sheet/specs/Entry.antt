@@ -46,13 +46,13 @@ unfoldable pub upperZero : ℕ → Bool
 upperZero w = ltb w 65536
 
 -- ---- unpacking. 02, item 6: 'Unpacking an event word should say when its upper sixteen bits are not zero'
+-- what each case of its answer stands for: 0 with the event's number, post and answer, or 24 and no field
 -- 01: 'If an answer is an enum, a definition sets out this paper's number and values for each of the enum's cases.'
--- 0 with the event's number, post and answer; or 24 and nothing else
 abbrev pub valuesOf : Unpacked → List ℕ
 valuesOf (Fields number post answer) = 0 ∷ number ∷ post ∷ answer ∷ []
 valuesOf Upper = upperBits ∷ []
 
--- of the event word w
+-- what unpacking the event word w answers
 unfoldable pub unpacked : ℕ → List ℕ
 unpacked w = pick (upperZero w) (0 ∷ numberIn w ∷ postIn w ∷ answerIn w ∷ []) (upperBits ∷ [])
 

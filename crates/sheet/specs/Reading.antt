@@ -1,6 +1,6 @@
 -- Reading a sheet. 01, 'The event sheet': 'Reading tests the length (18), then each block in turn, check before contents, and stops at once at the first bad block, naming it.'
 -- Assumes nothing.
-use Prim.Native.Nat.{ℕ, zero, suc, _+_, _-_, _*_, _/_, _%_, _<_}
+use Prim.Native.Nat.{ℕ, zero, suc, _+_, _-_, _*_, _/_, _%_}
 use mathlib.Core.Bool.{Bool, true, false, not, _&&_, _||_}
 use mathlib.Core.Path.{_≡_}
 use mathlib.Core.List.{List, [], _∷_, _++_}
@@ -36,7 +36,7 @@ unfoldable pub firstUpper : List ℕ → ℕ → ℕ → ℕ → ℕ
 firstUpper s b j zero = j
 firstUpper s b j (suc n) = pick (upperZero (word s b (1 + j * 2))) (firstUpper s b (j + 1) n) j
 
--- 'bits 16 to 31 are zero', of the n events of block b: none is the first that has upper bits
+-- 'bits 16 to 31 are zero', of the n events of block b: there is no first one whose word has upper bits
 abbrev pub entriesOk : List ℕ → ℕ → ℕ → Bool
 entriesOk s b n = eqb (firstUpper s b 0 n) n
 
@@ -110,10 +110,6 @@ entriesIn s =
 abbrev pub entryIn : List ℕ → ℕ → List ℕ
 entryIn s i =
     entryOf (word s (1 + i / perBlock) (1 + i % perBlock * 2)) (word s (1 + i / perBlock) (2 + i % perBlock * 2))
-
--- the words of the first m events have no upper bits
-abbrev pub NoUpper : List ℕ → ℕ → Type 0
-NoUpper s m = (i : ℕ) → i < m → upperZero (word s (1 + i / perBlock) (1 + i % perBlock * 2)) ≡ true
 
 unfoldable pub decode : List ℕ → Sheet
 decode s = record { stamp = word s 0 2; kinds = kindsIn s; events = tab (entryIn s) (entriesIn s) }

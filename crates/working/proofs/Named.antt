@@ -12,13 +12,13 @@ use lib.Dec.{eqb, ltb, leb}
 use lib.ListN.{length, getD}
 use Rattle.relay.proofs.Truth.{split, least-or-below}
 use Rattle.sheet.proofs.Accepts.{accepted-good}
-use Rattle.sheet.proofs.First.{NamedSheet, verdict-iff}
+use Rattle.sheet.proofs.First.{NamedSheet, verdict-iff, named-none}
 use Rattle.sheet.proofs.Good.{Good}
 use Rattle.sheet.proofs.Rooms.{placed, all-events, events-long}
 use Rattle.sheet.proofs.Tabs.{getD-tab}
 use Rattle.sheet.specs.Check.{word}
 use Rattle.sheet.specs.Entry.{answerOf, answerIn}
-use Rattle.sheet.specs.Layout.{perBlock, unanswered, contentsWrong, roomShort}
+use Rattle.sheet.specs.Layout.{perBlock, unanswered, contentsWrong, roomShort, upperBits}
 use Rattle.sheet.specs.Reading.{verdict, verdictOf, accepted, blocksIn, entriesIn, entryIn, decode}
 use Rattle.sheet.specs.declared.Verdict.{Verdict}
 use Rattle.working.proofs.Answers.{unanswered-before, answered-there}
@@ -147,3 +147,13 @@ names-work s m v (fits z u h) = rw (eq-eqb (verdictOf s .number) 0 z, none s z u
 -- 18 to 21 and 24 'given exactly when', with the block and the event's position: a verdict is that of working exactly when it may be named
 pub work-iff : (s : List ℕ) (m : ℕ) (v : Verdict) → (workVerdict s m ≡ v) ↔ NamedWork s m v
 work-iff s m v = (λ e. subst (NamedWork s m) e (work-named s m), names-work s m v)
+
+-- 02, item 6: the position is 0 where no event's word is named
+work-none : (s : List ℕ) (m : ℕ) (v : Verdict) → NamedWork s m v → (v .number ≡ upperBits → ⊥) → v .position ≡ 0
+work-none s m v (unread h b) n = named-none s v b n
+work-none s m v (answered b j z h k l q u) n = refl
+work-none s m v (short z u h) n = refl
+work-none s m v (fits z u h) n = refl
+
+pub work-names-none : (s : List ℕ) (m : ℕ) → (workVerdict s m .number ≡ upperBits → ⊥) → workVerdict s m .position ≡ 0
+work-names-none s m = work-none s m (workVerdict s m) (work-named s m)
