@@ -13,7 +13,7 @@
  * Stack: desk_valid, desk_start and desk_event need at most 2,048 bytes, and desk_check, desk_test, desk_read and
  * desk_write less than 512, whatever they are given, the return address counted and the caller's own use not; they
  * call nothing outside the two archives. (Read off the machine code: docs/FIGURES.md has each figure.) The other calls
- * hold a whole sheet's events, and were seen to need up to 72,464: they are for the desk's computer.
+ * hold a whole sheet's events, and were seen to need up to 73,872: they are for the desk's computer.
  *
  * Link liblent.a (desk_valid, desk_start, desk_event) and libpanel.a (the others); both are for x86-64 Linux.
  */
