@@ -187,8 +187,8 @@ module _ (s : List ℕ) where
   abbrev n : ℕ
   n = blocksIn (length s)
 
-  -- the first bad block of the sheet is x, and it checks
-  pub record FirstBad (x : ℕ) : Type 0 where
+  -- reading comes to the contents of block x: the length is right, all blocks before it are good, and it checks
+  pub record AtContents (x : ℕ) : Type 0 where
     pub right : lengthOk (length s) ≡ true
     pub inside : x < n
     pub before : AllGood s n 0 x
@@ -202,7 +202,7 @@ module _ (s : List ℕ) where
       let short : eqb (firstUpper s x 0 m) m ≡ false = rw (upper-first s n x p u) (ne-eqb p m (λ q. omega (arith, u .held))) in
       rw (ne-eqb x 0 (λ q. omega (arith, u .later)), u .count, short)
 
-  twenty-four : (v : Verdict) → NamedSheet s v → v .number ≡ upperBits → FirstBad (v .block) × UpperAt s n (v .block) (v .position)
+  twenty-four : (v : Verdict) → NamedSheet s v → v .number ≡ upperBits → AtContents (v .block) × UpperAt s n (v .block) (v .position)
   twenty-four v (bad-length e) z = absurd (omega arith)
   twenty-four v (blocks e (all-good f)) z = absurd (omega arith)
   twenty-four v (blocks e (bad-check x a y f c)) z = absurd (omega arith)
@@ -210,7 +210,7 @@ module _ (s : List ℕ) where
   twenty-four v (blocks e (bad-contents x a y f c d (other u))) z = absurd (omega arith)
 
   -- 24 with block x and position p exactly when all blocks before x are good, its check and its count are right, the event words before p have no upper bits and the one at p has
-  pub upper-iff : (x p : ℕ) → (verdictOf s ≡ verdictAt upperBits x p) ↔ (FirstBad x × UpperAt s n x p)
+  pub upper-iff : (x p : ℕ) → (verdictOf s ≡ verdictAt upperBits x p) ↔ (AtContents x × UpperAt s n x p)
   upper-iff x p = (
     λ e. twenty-four (verdictAt upperBits x p) (verdict-iff s (verdictAt upperBits x p) .0 e) refl,
     λ r.
@@ -218,7 +218,7 @@ module _ (s : List ℕ) where
         verdict-iff s (verdictAt upperBits x p) .1 (blocks (f .right) (bad-contents x (omega arith) (f .inside) (f .before) (f .checked) (upper-wrong x p (r .1)) (upper p (r .1)))),
   )
 
-  departing : (v : Verdict) → NamedSheet s v → (v .number ≡ contentsWrong) ⊎ (v .number ≡ upperBits) → FirstBad (v .block) × (contentsOk s n (v .block) ≡ false)
+  departing : (v : Verdict) → NamedSheet s v → (v .number ≡ contentsWrong) ⊎ (v .number ≡ upperBits) → AtContents (v .block) × (contentsOk s n (v .block) ≡ false)
   departing v (bad-length e) z = absurd (⊎-elim (λ q. omega arith) (λ q. omega arith) z)
   departing v (blocks e (all-good f)) z = absurd (⊎-elim (λ q. omega arith) (λ q. omega arith) z)
   departing v (blocks e (bad-check x a y f c)) z = absurd (⊎-elim (λ q. omega arith) (λ q. omega arith) z)
@@ -230,7 +230,7 @@ module _ (s : List ℕ) where
   either x v (other u) = (refl, inl refl)
 
   -- 20 and 24 together are exactly the contents that depart from the layout
-  pub departs-iff : (x : ℕ) → ((verdictOf s .block ≡ x) × ((verdictOf s .number ≡ contentsWrong) ⊎ (verdictOf s .number ≡ upperBits))) ↔ (FirstBad x × (contentsOk s n x ≡ false))
+  pub departs-iff : (x : ℕ) → ((verdictOf s .block ≡ x) × ((verdictOf s .number ≡ contentsWrong) ⊎ (verdictOf s .number ≡ upperBits))) ↔ (AtContents x × (contentsOk s n x ≡ false))
   departs-iff x = (
     λ r. rw (← r .0) (departing (verdictOf s) (named-sheet s) (r .1)),
     λ r.
