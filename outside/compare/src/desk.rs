@@ -102,7 +102,7 @@ pub fn reply(desk: &mut dyn Desk, request: &Request) -> Reply {
     }
 }
 
-/// The same for the calls on sheets.
+/// The same for reading, working and asking since when.
 fn sheet_reply(desk: &mut dyn Desk, request: &Request) -> Reply {
     match request {
         Request::Read {
@@ -125,6 +125,14 @@ fn sheet_reply(desk: &mut dyn Desk, request: &Request) -> Reply {
             let worked = desk.work(sheet, &mut out);
             worked_words(&worked, &out)
         }
+        Request::Why { sheet, position } => since_words(desk.why(sheet, *position)),
+        _ => write_reply(desk, request),
+    }
+}
+
+/// The same for writing, and for one block by itself.
+fn write_reply(desk: &mut dyn Desk, request: &Request) -> Reply {
+    match request {
         Request::Write {
             kinds,
             stamp,
@@ -136,7 +144,6 @@ fn sheet_reply(desk: &mut dyn Desk, request: &Request) -> Reply {
             let number = desk.write(kinds, *stamp, events, &mut out);
             [vec![number], padded(&out)].concat()
         }
-        Request::Why { sheet, position } => since_words(desk.why(sheet, *position)),
         Request::Check { block, number } => {
             let mut block = block.clone();
             let checks = desk.check(&mut block, *number);
