@@ -1,14 +1,16 @@
--- The paper's check words, and the order of a word's bytes: computed whole.
+-- The paper's check words, the order of a word's bytes, and what reading names in a spoiled block: computed whole.
 -- Assumes nothing.
 use mathlib.Core.Path.{_≡_, refl}
 use mathlib.Core.Bool.{true, false}
 use mathlib.Core.List.{[], _∷_}
 use Rattle.sheet.specs.Check.{sum, checksAs, checksAlone, blockOf, seal}
-use Rattle.sheet.specs.Entry.{packed}
-use Rattle.sheet.specs.Examples.{twoBlocks}
+use Rattle.sheet.specs.Entry.{packed, upperZero}
+use Rattle.sheet.specs.Examples.{twoBlocks, threeEvents, spoiled, oneBit, twoBits, notZero, noCount, noCheck, pastCount}
 use Rattle.sheet.specs.Layout.{checkAt}
 use Rattle.sheet.specs.Sheet.{headWord, eventsWord, sheetWord, encode}
-use Rattle.sheet.specs.Words.{wordAt, bytes, tab}
+use Rattle.sheet.specs.Words.{wordAt, putWord, bytes, tab}
+use Rattle.sheet.specs.Reading.{zeros, headOk, firstUpper, eventsFit, eventsOk, verdictAt, verdict, contentsFault, firstBad, lengthOk, verdictOf}
+use Rattle.relay.specs.Kinds.{isShort, ordinary, between, countFits, kindFits, kindsFit, tableOk}
 
 -- the check words of block 0 and of the block after it
 pub check-words : (sheetWord twoBlocks 0 checkAt ≡ 317940) × (sheetWord twoBlocks 1 checkAt ≡ 253455)
@@ -28,3 +30,15 @@ pub blocks-alone :
     × (checksAlone (blockOf (encode twoBlocks) 1) 0 ≡ false)
 unfolding checksAlone checksAs encode sheetWord headWord eventsWord packed sum seal bytes tab wordAt
 blocks-alone = (refl, refl, refl, refl)
+
+-- 02, item 6: what reading names, at each step
+pub spoiled-named :
+    (verdictOf (encode threeEvents) ≡ verdict 0 0)
+    × (verdictOf oneBit ≡ verdictAt 24 1 1)
+    × (verdictOf twoBits ≡ verdictAt 24 1 1)
+    × (verdictOf notZero ≡ verdictAt 24 1 1)
+    × (verdictOf noCount ≡ verdict 20 1)
+    × (verdictOf noCheck ≡ verdict 19 1)
+    × (verdictOf pastCount ≡ verdict 20 1)
+unfolding verdictOf lengthOk firstBad contentsFault headOk eventsOk eventsFit firstUpper zeros upperZero tableOk countFits kindsFit kindFits between ordinary isShort checksAs encode sheetWord headWord eventsWord packed sum seal bytes tab wordAt putWord spoiled
+spoiled-named = (refl, refl, refl, refl, refl, refl, refl)

@@ -1,9 +1,41 @@
 -- The paper's two blocks. 01, 'Proved and run examples': 'kinds 0, 1 with start stamp 0 give a block 0 check word of 317940; a following block of event 1 at post 0, answer 31, stamp 1000 has check word 253455'.
--- That the definitions give these words, and the bytes of a word lowest first, stands in proofs/Paper.antt.
+-- And a block of three events, spoiled: 02, item 6.
+-- That the definitions give these words and name these faults, and the bytes of a word lowest first, stands in proofs/Paper.antt.
 -- Assumes nothing.
-use mathlib.Core.List.{[], _∷_}
-use Rattle.sheet.specs.Entry.{entry}
-use Rattle.sheet.specs.Sheet.{Sheet}
+use Prim.Native.Nat.{ℕ, _+_, _-_, _*_, _%_, _^_}
+use mathlib.Core.List.{List, [], _∷_}
+use Rattle.sheet.specs.Entry.{entry, packed}
+use Rattle.sheet.specs.Sheet.{Sheet, encode}
+use Rattle.sheet.specs.Words.{wordAt, putWord}
 
 abbrev pub twoBlocks : Sheet
 twoBlocks = record { stamp = 0; kinds = 0 ∷ 1 ∷ []; events = entry 1 0 31 1000 ∷ [] }
+
+-- ---- a block of three events, spoiled
+abbrev pub threeEvents : Sheet
+threeEvents = record { stamp = 0; kinds = 0 ∷ 1 ∷ []; events = entry 1 0 31 0 ∷ entry 2 0 31 0 ∷ entry 5 0 31 0 ∷ [] }
+
+-- word k of block 1 is v, and the block's check is made to fit
+unfoldable pub spoiled : List ℕ → ℕ → ℕ → List ℕ
+spoiled s k v =
+    putWord (putWord s (512 + k * 4) v) 1020 ((wordAt s 1020 + (2 ^ 32 + wordAt s (512 + k * 4) - v)) % 2 ^ 32)
+
+-- bit 16 of event 1 up, and one fault more at each step: bit 31 of event 2, a word that should be zero, a count of 0, a check that does not fit
+abbrev pub oneBit : List ℕ
+oneBit = spoiled (encode threeEvents) 3 (packed 2 0 31 + 2 ^ 16)
+
+abbrev pub twoBits : List ℕ
+twoBits = spoiled oneBit 5 (packed 5 0 31 + 2 ^ 31)
+
+abbrev pub notZero : List ℕ
+notZero = spoiled twoBits 126 1
+
+abbrev pub noCount : List ℕ
+noCount = spoiled notZero 0 0
+
+abbrev pub noCheck : List ℕ
+noCheck = putWord noCount 1020 0
+
+-- bit 16 up past the count alone: a word that should be zero
+abbrev pub pastCount : List ℕ
+pastCount = spoiled (encode threeEvents) 7 (2 ^ 16)
