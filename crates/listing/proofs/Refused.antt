@@ -13,24 +13,21 @@ use Rattle.sheet.specs.Layout.{upperBits}
 use Rattle.digits.specs.Digits.{digits}
 use Rattle.digits.specs.Texts.{stored}
 use Rattle.digits.proofs.Stores.{put-one, stored-more}
-use Rattle.listing.specs.Lines.{space, spaced, ended, line, eventNamed, refusedLine}
+use Rattle.listing.specs.Lines.{space, spaced, ended, line, eventNamed, refusedWord, refusedLine}
 
 -- ---- what is printed. 02, item 6: `refused 24 BLOCK POSITION`, and every other refusal as before it
-abbrev word : List ℕ
-word = 114 ∷ 101 ∷ 102 ∷ 117 ∷ 115 ∷ 101 ∷ 100 ∷ []
-
-pub prints-event : (block position : ℕ) → refusedLine 24 block position ≡ line word (24 ∷ block ∷ position ∷ [])
+pub prints-event : (block position : ℕ) → refusedLine 24 block position ≡ line refusedWord (24 ∷ block ∷ position ∷ [])
 unfolding refusedLine eventNamed
 prints-event block position = refl
 
-pub prints-others : (number place position : ℕ) → (number ≡ 24 → ⊥) → refusedLine number place position ≡ line word (number ∷ place ∷ [])
+pub prints-others : (number place position : ℕ) → (number ≡ 24 → ⊥) → refusedLine number place position ≡ line refusedWord (number ∷ place ∷ [])
 unfolding refusedLine eventNamed
 prints-others number place position n = rw (ne-eqb number 24 n)
 
 -- ---- how it is put
 -- the word "refused" and a space, a byte at a time
 abbrev pub refused : List ℕ
-refused = 114 ∷ 101 ∷ 102 ∷ 117 ∷ 115 ∷ 101 ∷ 100 ∷ space ∷ []
+refused = refusedWord ++ (space ∷ [])
 
 pub refused-put : (d : List ℕ) → 8 ≤ length d → set (set (set (set (set (set (set (set d 0 114) 1 101) 2 102) 3 117) 4 115) 5 101) 6 100) 7 space ≡ stored d 0 refused
 refused-put d h =

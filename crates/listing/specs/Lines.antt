@@ -42,9 +42,13 @@ sectionLine ns = line (83 ∷ []) ns
 unfoldable pub eventNamed : ℕ → ℕ → List ℕ
 eventNamed number position = pick (eqb number upperBits) (position ∷ []) []
 
+-- the word "refused"
+abbrev pub refusedWord : List ℕ
+refusedWord = 114 ∷ 101 ∷ 102 ∷ 117 ∷ 115 ∷ 101 ∷ 100 ∷ []
+
 -- '"refused", its number and the block', or another place
 unfoldable pub refusedLine : ℕ → ℕ → ℕ → List ℕ
-refusedLine number place position = line (114 ∷ 101 ∷ 102 ∷ 117 ∷ 115 ∷ 101 ∷ 100 ∷ []) (number ∷ place ∷ eventNamed number position)
+refusedLine number place position = line refusedWord (number ∷ place ∷ eventNamed number position)
 
 -- what a call that puts a text states: r is its length, and it stands at the front of the lent bytes; what stands past it stays
 abbrev pub Lined : List ℕ → ℕ → List ℕ → List ℕ → Type 0

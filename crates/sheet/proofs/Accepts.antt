@@ -21,7 +21,7 @@ use Rattle.sheet.proofs.Lengths.{Whole, whole}
 use Rattle.sheet.proofs.Table.{table-few}
 use Rattle.sheet.proofs.First.{GoodBlock, AllGood, good-blocks}
 use Rattle.sheet.proofs.Sums.{checks-iff}
-use Rattle.sheet.proofs.Upper.{First, first-upper, one-first}
+use Rattle.sheet.proofs.Upper.{IsFirst, first-upper, one-first}
 
 -- ---- the loops, by index
 zeros-all : (s : List ℕ) (b k n : ℕ) → zeros s b k n ≡ true → (j : ℕ) → k ≤ j → j < k + n → word s b j ≡ 0

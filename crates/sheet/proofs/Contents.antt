@@ -67,6 +67,7 @@ contents-fills s n b = contents-by s n b (eqb b 0) refl
 abbrev pub faultIn : List ℕ → ℕ → Shape → Verdict
 faultIn s b f = pick (f .ok && not (entriesOk s b (f .events))) (verdictAt upperBits b (firstUpper s b 0 (f .events))) (verdict contentsWrong b)
 
+-- of block 0, whose shape has no events, and of a later one
 head-fault : (s : List ℕ) (b k : ℕ) (t : Bool) → verdict contentsWrong b ≡ faultIn s b (pick t (shape true 0 k) (shape false 0 0))
 unfolding firstUpper
 head-fault s b k true = refl

@@ -17,7 +17,7 @@ use Rattle.sheet.specs.Check.{word, checks}
 use Rattle.sheet.specs.Reading.{firstUpper, entriesOk, eventsFit, eventsOk, contentsOk, verdictAt, verdict, contentsFault, firstBad, lengthOk, blocksIn, verdictOf}
 use Rattle.sheet.specs.declared.Verdict.{Verdict}
 use Rattle.sheet.proofs.Lengths.{wrong-length, right-length}
-use Rattle.sheet.proofs.Upper.{First, first-upper, one-first}
+use Rattle.sheet.proofs.Upper.{IsFirst, first-upper, one-first}
 
 -- block b of a sheet of n blocks is good
 pub record GoodBlock (s : List ℕ) (n b : ℕ) : Type 0 where
@@ -49,11 +49,13 @@ pub data Named (s : List ℕ) (n b e : ℕ) : Verdict → Type 0 where
 
 -- ---- the contents of one block
 module _ (s : List ℕ) (n x : ℕ) where
+  -- such an event is the one that the search finds
   upper-first : (p : ℕ) → UpperAt s n x p → firstUpper s x 0 (word s x 0) ≡ p
   upper-first p u =
       one-first s x (word s x 0) _ p (first-upper s x 0 (word s x 0))
       (record { most = omega (arith, u .held); before = λ i h k. u .before i k; here = λ h. u .here })
 
+  -- by the tests of contentsFault, in their order
   departs-by : (t f u : Bool) → eqb x 0 ≡ t → eventsFit (word s x 0) (eqb (x + 1) n) ≡ f → entriesOk s x (word s x 0) ≡ u → Departs s n x (contentsFault s n x)
   unfolding contentsFault
   departs-by true f u a b c = rw a (other (λ p h. omega (arith, h .later, eqb-true x 0 a)))
@@ -202,28 +204,29 @@ module _ (s : List ℕ) where
       let short : eqb (firstUpper s x 0 m) m ≡ false = rw (upper-first s n x p u) (ne-eqb p m (λ q. omega (arith, u .held))) in
       rw (ne-eqb x 0 (λ q. omega (arith, u .later)), u .count, short)
 
-  twenty-four : (v : Verdict) → NamedSheet s v → v .number ≡ upperBits → AtContents (v .block) × UpperAt s n (v .block) (v .position)
-  twenty-four v (bad-length e) z = absurd (omega arith)
-  twenty-four v (blocks e (all-good f)) z = absurd (omega arith)
-  twenty-four v (blocks e (bad-check x a y f c)) z = absurd (omega arith)
-  twenty-four v (blocks e (bad-contents x a y f c d (upper p u))) z = (record { right = e; inside = y; before = f; checked = c }, u)
-  twenty-four v (blocks e (bad-contents x a y f c d (other u))) z = absurd (omega arith)
+  -- 20 and 24 come from a block that reading has come to, whose contents depart
+  departing : (v : Verdict) → NamedSheet s v → (v .number ≡ contentsWrong) ⊎ (v .number ≡ upperBits)
+      → AtContents (v .block) × (contentsOk s n (v .block) ≡ false) × Departs s n (v .block) v
+  departing v (bad-length e) z = absurd (⊎-elim (λ q. omega arith) (λ q. omega arith) z)
+  departing v (blocks e (all-good f)) z = absurd (⊎-elim (λ q. omega arith) (λ q. omega arith) z)
+  departing v (blocks e (bad-check x a y f c)) z = absurd (⊎-elim (λ q. omega arith) (λ q. omega arith) z)
+  departing v (blocks e (bad-contents x a y f c d (upper p u))) z = (record { right = e; inside = y; before = f; checked = c }, d, upper p u)
+  departing v (blocks e (bad-contents x a y f c d (other u))) z = (record { right = e; inside = y; before = f; checked = c }, d, other u)
+
+  twenty-four : (x : ℕ) (v : Verdict) → Departs s n x v → v .number ≡ upperBits → UpperAt s n x (v .position)
+  twenty-four x v (upper p u) z = u
+  twenty-four x v (other u) z = absurd (omega arith)
 
   -- 24 with block x and position p exactly when all blocks before x are good, its check and its count are right, the event words before p have no upper bits and the one at p has
   pub upper-iff : (x p : ℕ) → (verdictOf s ≡ verdictAt upperBits x p) ↔ (AtContents x × UpperAt s n x p)
   upper-iff x p = (
-    λ e. twenty-four (verdictAt upperBits x p) (verdict-iff s (verdictAt upperBits x p) .0 e) refl,
+    λ e.
+        let r = departing (verdictAt upperBits x p) (verdict-iff s (verdictAt upperBits x p) .0 e) (inr refl) in
+        (r .0, twenty-four x (verdictAt upperBits x p) (r .2) refl),
     λ r.
         let f = r .0 in
         verdict-iff s (verdictAt upperBits x p) .1 (blocks (f .right) (bad-contents x (omega arith) (f .inside) (f .before) (f .checked) (upper-wrong x p (r .1)) (upper p (r .1)))),
   )
-
-  departing : (v : Verdict) → NamedSheet s v → (v .number ≡ contentsWrong) ⊎ (v .number ≡ upperBits) → AtContents (v .block) × (contentsOk s n (v .block) ≡ false)
-  departing v (bad-length e) z = absurd (⊎-elim (λ q. omega arith) (λ q. omega arith) z)
-  departing v (blocks e (all-good f)) z = absurd (⊎-elim (λ q. omega arith) (λ q. omega arith) z)
-  departing v (blocks e (bad-check x a y f c)) z = absurd (⊎-elim (λ q. omega arith) (λ q. omega arith) z)
-  departing v (blocks e (bad-contents x a y f c d (upper p u))) z = (record { right = e; inside = y; before = f; checked = c }, d)
-  departing v (blocks e (bad-contents x a y f c d (other u))) z = (record { right = e; inside = y; before = f; checked = c }, d)
 
   either : (x : ℕ) (v : Verdict) → Departs s n x v → (v .block ≡ x) × ((v .number ≡ contentsWrong) ⊎ (v .number ≡ upperBits))
   either x v (upper p u) = (refl, inr refl)
@@ -232,7 +235,7 @@ module _ (s : List ℕ) where
   -- 20 and 24 together are exactly the contents that depart from the layout
   pub departs-iff : (x : ℕ) → ((verdictOf s .block ≡ x) × ((verdictOf s .number ≡ contentsWrong) ⊎ (verdictOf s .number ≡ upperBits))) ↔ (AtContents x × (contentsOk s n x ≡ false))
   departs-iff x = (
-    λ r. rw (← r .0) (departing (verdictOf s) (named-sheet s) (r .1)),
+    λ r. let d = departing (verdictOf s) (named-sheet s) (r .1) in rw (← r .0) (d .0, d .1),
     λ r.
         let f = r .0 in
         rw (names-sheet s (contentsFault s n x) (blocks (f .right) (bad-contents x (omega arith) (f .inside) (f .before) (f .checked) (r .1) (departs s n x))))

@@ -1,6 +1,6 @@
 -- An event and its event word: what is packed comes back, and what is unpacked packs to the same word. The fields stand side by side, so each is a quotient's remainder.
 -- Assumes nothing.
-use mathlib.Core.Path.{_≡_, ap}
+use mathlib.Core.Path.{_≡_, sym, ap}
 use Prim.Native.Nat.{ℕ, _/_, _%_, _<_}
 use mathlib.Core.Bool.{true, false}
 use mathlib.Core.List.{List, [], _∷_}
@@ -35,14 +35,15 @@ module _ (number post answer : ℕ) (hn : number < 32) (hp : post < 64) (ha : an
 pub packed-small : (e : List ℕ) → In e → entryWord e < 65536
 packed-small e f = small _ _ _ (f .number) (f .post) (f .answer)
 
+-- the two answers differ in their number
+apart : {a b c : ℕ} → (0 ∷ a ∷ b ∷ c ∷ []) ≡ (upperBits ∷ []) → ⊥
+apart q = omega (arith, ap (λ (l : List ℕ). getD l 0 0) q)
+
 -- what unpacking the word w said, by its case
 module _ (w : ℕ) (r : Unpacked) (e : valuesOf r ≡ unpacked w) where
   pub told-upper : r ≡ Upper → upperZero w ≡ false
   unfolding unpacked
-  told-upper u = split (upperZero w) (λ z. absurd (numbers (rw (u, z) at e))) (λ z. z)
-    where
-      numbers : {a b c : ℕ} → (upperBits ∷ []) ≡ (0 ∷ a ∷ b ∷ c ∷ []) → ⊥
-      numbers q = omega (arith, ap (λ (l : List ℕ). getD l 0 0) q)
+  told-upper u = split (upperZero w) (λ z. absurd (apart (sym (rw (u, z) at e)))) (λ z. z)
 
   pub told-fields : (number post answer : ℕ) → r ≡ Fields number post answer → (upperZero w ≡ true) × (number ≡ numberIn w) × (post ≡ postIn w) × (answer ≡ answerIn w)
   unfolding unpacked
@@ -50,10 +51,7 @@ module _ (w : ℕ) (r : Unpacked) (e : valuesOf r ≡ unpacked w) where
       split (upperZero w)
       (λ z. let q : (0 ∷ number ∷ post ∷ answer ∷ []) ≡ (0 ∷ numberIn w ∷ postIn w ∷ answerIn w ∷ []) = rw (u, z) at e in
       (z, ap (λ (l : List ℕ). getD l 1 0) q, ap (λ (l : List ℕ). getD l 2 0) q, ap (λ (l : List ℕ). getD l 3 0) q))
-      (λ z. absurd (numbers (rw (u, z) at e)))
-    where
-      numbers : {a b c : ℕ} → (0 ∷ a ∷ b ∷ c ∷ []) ≡ (upperBits ∷ []) → ⊥
-      numbers q = omega (arith, ap (λ (l : List ℕ). getD l 0 0) q)
+      (λ z. absurd (apart (rw (u, z) at e)))
 
 -- an event of four numbers comes back from its word and its stamp
 pub entry-back : (e : List ℕ) → length e ≡ 4 → In e → entryOf (entryWord e) (stampOf e) ≡ e

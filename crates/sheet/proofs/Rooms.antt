@@ -23,7 +23,7 @@ use Rattle.sheet.specs.declared.Found.{Found}
 use Rattle.sheet.proofs.Accepts.{accepted-good}
 use Rattle.sheet.proofs.Good.{Good}
 use Rattle.sheet.proofs.Upper.{zero-upper}
-use Rattle.relay.proofs.Truth.{equal-or-not}
+use Rattle.relay.proofs.Truth.{split, least-or-below}
 use Rattle.sheet.proofs.Table.{table-few}
 use Rattle.sheet.proofs.Tabs.{length-tab}
 
@@ -62,27 +62,27 @@ module _ (s : List ℕ) (z : verdictOf s .number ≡ 0) where
   entries-within = entries-by (leb n 1) refl .1
 
   -- event i stands in a block, at a place up to the block's number
-  placed-by : (b : Bool) → leb n 1 ≡ b → (i : ℕ) → i < entriesIn s → (1 + i / 60 < n) × (i % 60 < word s (1 + i / 60) 0)
-  unfolding entriesIn
-  placed-by true e i h = let k : i < 0 = rw e at h in absurd (omega arith)
-  placed-by false e i h =
-      let k : i < (n - 2) * 60 + word s (n - 1) 0 = rw e at h in
-      let o : 1 < n = leb-false n 1 e in
-      let m = good .many (n - 1) (omega arith) (omega arith) in (
-        omega arith,
-        equal-or-not (1 + i / 60) (n - 1)
-            (λ (l : 1 + i / 60 ≡ n - 1). rw l (omega arith))
-            (λ l. rw (good .full (1 + i / 60) (omega arith) (omega arith)) (omega arith)),
-      )
-
   pub placed : (i : ℕ) → i < entriesIn s → (1 + i / perBlock < n) × (i % perBlock < word s (1 + i / perBlock) 0)
-  placed i h = placed-by (leb n 1) refl i h
+  unfolding entriesIn
+  placed i =
+      split (leb n 1)
+      (λ e. rw e (λ h. absurd (omega arith)))
+      (λ e.
+      rw e
+      (λ h.
+      let more : 1 < n = leb-false n 1 e in
+      let many = good .many (n - 1) (omega arith) (omega arith) in (
+        omega arith,
+        least-or-below n (1 + i / perBlock + 1)
+            (λ last. let here : 1 + i / perBlock ≡ n - 1 = omega arith in rw here (omega arith))
+            (λ before. rw (good .full (1 + i / perBlock) (omega arith) before) (omega arith)),
+      )))
 
   -- and its word has no upper bits
   pub no-upper : NoUpper s (entriesIn s)
   no-upper i h =
       let p = placed i h in
-      zero-upper _ (good .fields (1 + i / 60) (omega arith) (p .0) (i % 60) (p .1))
+      zero-upper _ (good .fields (1 + i / perBlock) (omega arith) (p .0) (i % perBlock) (p .1))
 
   -- its events fill its blocks
   blocks-by : (b : Bool) → leb n 1 ≡ b → bytesFor (entriesIn s) ≡ length s

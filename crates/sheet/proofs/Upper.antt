@@ -29,12 +29,12 @@ zero-upper w h = lt-ltb w 65536 h
 -- ---- of n events of block b, from event j on
 module _ (s : List ℕ) (b : ℕ) where
   -- p is the first whose word has upper bits, or past the last where none has
-  pub record First (j n p : ℕ) : Type 0 where
+  pub record IsFirst (j n p : ℕ) : Type 0 where
     pub most : p ≤ j + n
     pub before : (i : ℕ) → j ≤ i → i < p → word s b (1 + i * 2) < 65536
     pub here : p < j + n → 65536 ≤ word s b (1 + p * 2)
 
-  pub first-upper : (j n : ℕ) → First j n (firstUpper s b j n)
+  pub first-upper : (j n : ℕ) → IsFirst j n (firstUpper s b j n)
   unfolding firstUpper
   first-upper j zero = record { most = omega arith; before = λ i h k. absurd (omega arith); here = λ h. absurd (omega arith) }
   first-upper j (suc n) =
@@ -51,10 +51,10 @@ module _ (s : List ℕ) (b : ℕ) where
       (λ e. rw e (record { most = omega arith; before = λ i h k. absurd (omega arith); here = λ h. upper-some _ e }))
 
   -- no other is so
-  not-before : (n p q : ℕ) → First 0 n p → First 0 n q → p < q → ⊥
+  not-before : (n p q : ℕ) → IsFirst 0 n p → IsFirst 0 n q → p < q → ⊥
   not-before n p q f g h = omega (arith, f .here (omega (arith, g .most)), g .before p (omega arith) h)
 
-  pub one-first : (n p q : ℕ) → First 0 n p → First 0 n q → p ≡ q
+  pub one-first : (n p q : ℕ) → IsFirst 0 n p → IsFirst 0 n q → p ≡ q
   one-first n p q f g =
       least-or-below p q
       (λ h. ⊎-elim (λ e. e) (λ l. absurd (not-before n p q f g l)) (eq-or-lt-of-le h))

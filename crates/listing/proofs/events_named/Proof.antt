@@ -1,4 +1,4 @@
--- `listing::events_named` meets its contract.
+-- `listing::events_named` meets its contract: by the test of the number.
 -- Assumes nothing.
 use Rattle.relay.proofs.Tests.{tests}
 use Rattle.listing.proofs.events_named.Statement.{statement}
