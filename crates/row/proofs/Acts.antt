@@ -28,7 +28,7 @@ module _ (row : Row) where
   back-by true e = rw e (rw (take-append-drop (row .n) (row .posts)))
   back-by false e = rw e
 
-  back : lineTo row (lineOf row) ≡ row
+  pub back : lineTo row (lineOf row) ≡ row
   back = back-by (leb (row .n) most) refl
 
   module _ (s : Head) (n i t : ℕ) where

@@ -2,3 +2,4 @@ pub mod Part
 pub mod Starts
 pub mod Acts
 pub mod Held
+pub mod Words

@@ -16,6 +16,7 @@ use Rattle.relay.specs.Kinds.{countFits, kindsFit, tableOk}
 use Rattle.relay.specs.Line.{freshLine, told, head}
 use Rattle.relay.specs.Posts.{blank}
 use Rattle.relay.specs.declared.Post.{Post}
+use Rattle.row.specs.declared.Stood.{Stood}
 use Rattle.row.specs.Row.{most, rowOf, stood, startRow}
 
 -- a table is as long as itself
@@ -67,3 +68,33 @@ module _ (ks : List ℕ) (t : ℕ) where
       let e : posts ≡ rowOf (freshLine ks) .posts =
       all-stored ks posts i past ∙ inv ∙ ap (λ (p : Post). sets (replicate most p) 0 (freshLine ks)) eb ∙ row-fresh ok in
       rw (e, ← row-count) (sym (start-taken ok))
+
+-- what starting tells, by its answer
+module _ (ks : List ℕ) (t : ℕ) (r : Stood) (e : r ≡ startRow ks t) where
+  pub record Begun : Type 0 where
+    pub table : tableOk ks ≡ true
+    pub row : r .row ≡ rowOf (freshLine ks)
+    pub head : r .told .head ≡ head 0 t
+
+  pub record Refused : Type 0 where
+    pub table : tableOk ks ≡ false
+    pub row : r .row ≡ rowOf []
+    pub head : r .told .head ≡ head 0 0
+
+  begins-by : (b : Bool) → tableOk ks ≡ b → r .told .answer ≡ 0 → Begun
+  begins-by true h z =
+      let f = e ∙ start-taken ks t h in
+      record { table = h; row = ap (λ (x : Stood). x .row) f; head = ap (λ (x : Stood). x .told .head) f }
+  begins-by false h z = absurd (let o = ap (λ (x : Stood). x .told .answer) (e ∙ start-refused ks t h) in omega arith)
+
+  pub begins : r .told .answer ≡ 0 → Begun
+  begins z = begins-by (tableOk ks) refl z
+
+  refuses-by : (b : Bool) → tableOk ks ≡ b → (r .told .answer ≡ 0 → ⊥) → Refused
+  refuses-by false h z =
+      let f = e ∙ start-refused ks t h in
+      record { table = h; row = ap (λ (x : Stood). x .row) f; head = ap (λ (x : Stood). x .told .head) f }
+  refuses-by true h z = absurd (z (ap (λ (x : Stood). x .told .answer) (e ∙ start-taken ks t h)))
+
+  pub refuses : (r .told .answer ≡ 0 → ⊥) → Refused
+  refuses z = refuses-by (tableOk ks) refl z

@@ -1,5 +1,7 @@
 // A row of at most 32 records by value, for callers that keep the line themselves: the same definitions as over the lent row.
 ghost use mathlib.Core.Path.{_≡_};
+ghost use lib.ListN.{length};
+ghost use Rattle.relay.specs.Posts.{at};
 ghost use Rattle.relay.specs.Valid.{valid};
 ghost use Rattle.row.specs.Row.{lineOf, eventRow, startRow};
 use relay::Head;
@@ -98,4 +100,30 @@ pub fn start_row(kinds: &[u32], stamp: u32) -> Stood
         told: told,
         row: Row { posts: posts, n: n },
     }
+}
+
+// How many posts the row's line has.
+pub fn count(row: Row) -> usize
+    ensures { λ r. ⌜ r ≡ length (lineOf row) ⌝ }
+{
+    let n = row.n;
+    if 32 < n {
+        return 0;
+    }
+    n
+}
+
+// The word of a post of the row's line, 0 where it has no such post.
+pub fn word_at(row: Row, i: usize) -> u32
+    ensures { λ r. ⌜ r ≡ at (lineOf row) i .word ⌝ }
+{
+    let posts = row.posts;
+    let n = row.n;
+    if 32 < n {
+        return 0;
+    }
+    if i < n {
+        return posts[i].word;
+    }
+    0
 }

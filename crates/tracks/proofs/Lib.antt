@@ -1,0 +1,10 @@
+pub mod Together
+pub mod Kept
+pub mod Tested
+pub mod Steps
+pub mod Answers
+pub mod Runs
+pub mod Demand
+pub mod Given
+pub mod Vibrated
+pub mod Examples

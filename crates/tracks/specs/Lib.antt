@@ -1,0 +1,4 @@
+pub mod Circuit
+pub mod Desk
+pub mod Given
+pub mod Examples
