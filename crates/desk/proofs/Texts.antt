@@ -8,6 +8,7 @@ use native.Mathlib.Omega.{arith}
 use borrow.Author.Tests.{eq-eqb, ne-eqb, eqb-false}
 use lib.ListN.{length, getD, List·getD-append}
 use Rattle.relay.proofs.Truth.{equal-or-not}
+use Rattle.sheet.specs.Layout.{oneTrack}
 use Rattle.sheet.proofs.Rooms.{events-long, entries-few}
 use Rattle.sheet.specs.Reading.{verdictOf, decode, found, handed, readOf}
 use Rattle.sheet.specs.declared.Found.{Found}
@@ -74,7 +75,7 @@ module _ (s : List ℕ) (k : ℕ) where
       text-event = rw (← e, eq-eqb (r .number) 0 z, ne-eqb (r .position) 0 p)
 
       pub named-few : r .position - 1 < 3780
-      named-few = omega (arith, named-in z .1, events-long s, entries-few s (named-in z .0))
+      named-few = omega (arith, named-in z .1, events-long s, entries-few oneTrack s (named-in z .0))
 
       -- reading the sheet again, into room for any, hands it out
       pub named-read : (f : Found) → f ≡ readOf s 32 3780 → (room room′ : List (List ℕ)) → room′ ≡ handed f (decode s .events) room

@@ -8,6 +8,7 @@ use borrow.Author.Tests.{eq-eqb, le-ltb}
 use lib.ListN.{length, getD, length-append}
 use Rattle.digits.specs.Texts.{joined}
 use Rattle.digits.proofs.Value.{digits-within}
+use Rattle.sheet.specs.Layout.{oneTrack}
 use Rattle.sheet.specs.Entry.{numberOf, postOf, answerOf, stampOf}
 use Rattle.sheet.specs.Reading.{verdictOf, blocksIn, decode}
 use Rattle.sheet.specs.Sheet.{Sheet, eventAt}
@@ -87,8 +88,8 @@ module _ (s : List ℕ) (small : Below 256 s) (z : verdictOf s .number ≡ 0) wh
   pub page-fits : length (textFor s) ≤ page
   page-fits =
       let t = decode s in
-      let w = decoded-writable (blocksIn (length s)) s (accepted-good s z) small in
-      omega (arith, ap (λ (x : List ℕ). length x) (exported-is t), register-long (t .stamp) (t .kinds) (t .events), register-short t w (omega (arith, kinds-long s, posts-few s z)))
+      let w = decoded-writable (blocksIn (length s)) s (accepted-good oneTrack s z) small in
+      omega (arith, ap (λ (x : List ℕ). length x) (exported-is t), register-long (t .stamp) (t .kinds) (t .events), register-short t w (omega (arith, kinds-long s, posts-few oneTrack s z)))
 
   -- so a page is never too short
   pub page-enough : (m : ℕ) → page ≤ m → exportOf s m ≡ done (length (textFor s))

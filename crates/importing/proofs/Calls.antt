@@ -7,7 +7,7 @@ use mathlib.Core.List.{List, [], _∷_, _++_}
 use native.Mathlib.Omega.{arith}
 use borrow.Author.Tests.{ne-eqb}
 use lib.ListN.{length, drop}
-use Rattle.sheet.specs.Layout.{mostEntries}
+use Rattle.sheet.specs.Layout.{mostEntries, oneTrack}
 use Rattle.sheet.specs.Reading.{verdictOf, blocksIn, decode}
 use Rattle.sheet.specs.Sheet.{Sheet, encode}
 use Rattle.sheet.specs.Writing.{bytesFor}
@@ -51,8 +51,8 @@ module _ (t : Sheet) (text : List ℕ) (w : Writable t) (x : RightText t text) w
 pub there-and-back : (s : List ℕ) → Below 256 s → verdictOf s .number ≡ 0 → (r : Imported) (out out′ : List ℕ) → Imports (exported (decode s)) r out out′ → length s ≤ length out
     → (r ≡ imported (length s)) × (out′ ≡ s ++ drop (length s) out)
 there-and-back s small z r out out′ i l =
-    let w : Writable (decode s) = decoded-writable (blocksIn (length s)) s (accepted-good s z) small in
-    let n : bytesFor (length (decode s .events)) ≡ length s = ap bytesFor (events-long s) ∙ bytes-are s z in
+    let w : Writable (decode s) = decoded-writable (blocksIn (length s)) s (accepted-good oneTrack s z) small in
+    let n : bytesFor (length (decode s .events)) ≡ length s = ap bytesFor (events-long s) ∙ bytes-are oneTrack s z in
     let g = right-imported (decode s) (exported (decode s)) w (export-right (decode s)) r out out′ i (omega arith) in
     (g .0 ∙ ap imported n, g .1 ∙ rw (n, read-written s small z))
 

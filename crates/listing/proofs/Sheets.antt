@@ -13,6 +13,7 @@ use Rattle.relay.proofs.Fresh.{length-fresh}
 use Rattle.relay.proofs.Truth.{split}
 use Rattle.row.proofs.Starts.{table-few}
 use Rattle.row.specs.Row.{rowOf}
+use Rattle.sheet.specs.Layout.{oneTrack}
 use Rattle.sheet.proofs.Bytes.{Below}
 use Rattle.sheet.proofs.One.{read-one}
 use Rattle.sheet.proofs.Rooms.{not-long, posts-few, entries-few, room-both, read-found}
@@ -24,7 +25,7 @@ use Rattle.working.proofs.Steps.{run-long}
 use Rattle.working.proofs.Twice.{worked-writable, same-length}
 use Rattle.working.proofs.Works.{said-table}
 use Rattle.working.specs.Run.{begun, run}
-use Rattle.working.specs.Working.{worked, refused, workVerdict, workOf, workedBytes, Works}
+use Rattle.working.specs.Working.{worked, refused, workVerdict, workVerdictUpTo, workOf, workedBytes, Works}
 use Rattle.working.specs.declared.Worked.{Worked}
 use Rattle.listing.specs.Lines.{refusedLine}
 use Rattle.listing.specs.Listing.{eventLines, sectionLines, lineAfter, answerTo, listingOf}
@@ -33,16 +34,16 @@ use Rattle.listing.specs.Listing.{eventLines, sectionLines, lineAfter, a
 module _ (s : List ℕ) where
   -- a sheet that is worked was accepted
   accepts : (m : ℕ) → workVerdict s m .number ≡ 0 → verdictOf s .number ≡ 0
-  unfolding workVerdict
+  unfolding workVerdictUpTo
   accepts m e = split (accepted s) (λ t. eqb-true (verdictOf s .number) 0 t) (λ f. rw f at e)
 
   module _ (out : List ℕ) (room : length out ≡ 32768) where
     -- an accepted sheet has at most 32,768 bytes, so these answer as an output of its own length does
     same-answer : workVerdict s (length out) ≡ answerTo s
-    unfolding workVerdict
+    unfolding workVerdictUpTo
     same-answer =
         split (accepted s)
-        (λ t. rw (le-leb (length s) (length out) (omega (arith, not-long s (eqb-true (verdictOf s .number) 0 t))), le-leb (length s) (length s) (omega arith)))
+        (λ t. rw (le-leb (length s) (length out) (omega (arith, not-long oneTrack s (eqb-true (verdictOf s .number) 0 t))), le-leb (length s) (length s) (omega arith)))
         (λ f. rw f)
 
     module _ (r : Worked) (out′ : List ℕ) (w : Works s r out out′) where
@@ -117,7 +118,7 @@ module _ (s : List ℕ) (z : verdictOf s .number ≡ 0) where
       found-again : (r ≡ found (decode t)) × (room′ ≡ decode t .events ++ drop (length (decode t .events)) room)
       found-again =
           let a = written-accepted (worked (decode s)) (worked-writable s small z) in
-          let f = read-found t ks room a (room-both t ks room (omega (arith, posts-few t a)) (omega (arith, entries-few t a))) in
+          let f = read-found t ks room a (room-both t ks room (omega (arith, posts-few oneTrack t a)) (omega (arith, entries-few oneTrack t a))) in
           let o = read-one t r (found (decode t)) ks ks′ _ room room′ _ (rw front at h) f in
           (o .0, o .2)
 

@@ -13,7 +13,7 @@ use Rattle.relay.proofs.Forms.{kind-few}
 use Rattle.relay.proofs.KeptPosts.{kind-small}
 use Rattle.relay.proofs.Truth.{and-facts}
 use Rattle.sheet.specs.Entry.{inFields, stampOf}
-use Rattle.sheet.specs.Layout.{mostEntries}
+use Rattle.sheet.specs.Layout.{mostEntries, oneTrack}
 use Rattle.sheet.specs.Sheet.{Sheet, eventAt, encode}
 use Rattle.sheet.specs.Reading.{verdictOf, blocksIn, decode}
 use Rattle.sheet.proofs.Bytes.{Below}
@@ -86,6 +86,6 @@ module _ (t : Sheet) where
 -- ---- export and then import gives the sheet's bytes, for every accepted sheet
 pub there-and-back : (s : List ℕ) → Below 256 s → verdictOf s .number ≡ 0 → (accepts (exported (decode s)) ≡ true) × (encode (sheetIn (exported (decode s))) ≡ s)
 there-and-back s small z =
-    let w : Writable (decode s) = decoded-writable (blocksIn (length s)) s (accepted-good s z) small in
+    let w : Writable (decode s) = decoded-writable (blocksIn (length s)) s (accepted-good oneTrack s z) small in
     let e = export-import (decode s) (writable-right (decode s) w) in
     (e .0, ap encode (e .1) ∙ read-written s small z)

@@ -12,13 +12,13 @@ use lib.Dec.{eqb, leb}
 use lib.ListN.{length}
 use Rattle.relay.proofs.Truth.{and-facts}
 use Rattle.relay.specs.Choice.{pick}
-use Rattle.relay.specs.Kinds.{tableOk}
 use Rattle.sheet.specs.Layout.{blockBytes, checkAt, mostBlocks, perBlock}
 use Rattle.sheet.specs.Check.{word}
-use Rattle.sheet.specs.Reading.{kindsIn, headOk, eventsFit, eventsOk, firstUpper, entriesOk, zeros, contentsOk, lengthOk, blocksIn, verdictOf}
+use Rattle.sheet.specs.Sheet.{tableWords}
+use Rattle.sheet.specs.Reading.{formIn, tableIn, tableFits, formOk, headOk, eventsFit, eventsOk, firstUpper, entriesOk, zeros, contentsOk, lengthOk, blocksIn, verdictUpTo}
 use Rattle.sheet.proofs.Good.{Good}
 use Rattle.sheet.proofs.Lengths.{Whole, whole}
-use Rattle.sheet.proofs.Table.{table-few}
+use Rattle.sheet.proofs.Table.{fits-few, words-few}
 use Rattle.sheet.proofs.First.{GoodBlock, AllGood, good-blocks}
 use Rattle.sheet.proofs.Sums.{checks-iff}
 use Rattle.sheet.proofs.Upper.{IsFirst, first-upper, one-first}
@@ -37,7 +37,7 @@ all-zeros s b k zero f = refl
 all-zeros s b k (suc n) f =
     rw (eq-eqb (word s b k) 0 (f k (omega arith) (omega arith))) (all-zeros s b (k + 1) n (λ j p q. f j (omega arith) (omega arith)))
 
-entries-iff : (s : List ℕ) (b n : ℕ) → (entriesOk s b n ≡ true) ↔ ((j : ℕ) → j < n → word s b (1 + j * 2) < 65536)
+entries-iff : (s : List ℕ) (b n : ℕ) → (entriesOk s b n ≡ true) ↔ ((j : ℕ) → j < n → word s b (1 + j * 2) < formIn s * 65536)
 entries-iff s b n =
     let r = first-upper s b 0 n in (
       λ e j q. r .before j (omega arith) (omega (arith, eqb-true (firstUpper s b 0 n) n e)),
@@ -45,33 +45,34 @@ entries-iff s b n =
     )
 
 -- ---- block 0
-pub record GoodHead (s : List ℕ) : Type 0 where
-  pub first : word s 0 0 ≡ 1
-  pub table : tableOk (kindsIn s) ≡ true
-  pub rest : (k : ℕ) → 3 + word s 0 1 ≤ k → k < checkAt → word s 0 k ≡ 0
+pub record GoodHead (most : ℕ) (s : List ℕ) : Type 0 where
+  pub first : formOk most (formIn s) ≡ true
+  pub table : tableFits (formIn s) (tableIn s) ≡ true
+  pub rest : (k : ℕ) → 3 + tableWords (formIn s) (word s 0 1) ≤ k → k < checkAt → word s 0 k ≡ 0
 
-head-iff : (s : List ℕ) → (headOk s ≡ true) ↔ GoodHead s
+head-iff : (most : ℕ) (s : List ℕ) → (headOk most s ≡ true) ↔ GoodHead most s
 unfolding headOk
-head-iff s = (
-  λ e.
-      let f = and-facts (eqb (word s 0 0) 1 && tableOk (kindsIn s)) (zeros s 0 (3 + word s 0 1) (checkAt - (3 + word s 0 1))) .0 e in
-      let g = and-facts (eqb (word s 0 0) 1) (tableOk (kindsIn s)) .0 (f .0) in
-      record {
-        first = eqb-true (word s 0 0) 1 (g .0);
-        table = g .1;
-        rest = λ k p q. zeros-all s 0 (3 + word s 0 1) (checkAt - (3 + word s 0 1)) (f .1) k p (omega arith);
-      },
-  λ r.
-      rw (eq-eqb (word s 0 0) 1 (r .first), r .table)
-      (all-zeros s 0 (3 + word s 0 1) (checkAt - (3 + word s 0 1)) (λ j p q. r .rest j p (omega (arith, table-few s (r .table))))),
-)
+head-iff most s =
+    let u = 3 + tableWords (formIn s) (word s 0 1) in (
+      λ e.
+          let f = and-facts (formOk most (formIn s) && tableFits (formIn s) (tableIn s)) (zeros s 0 u (checkAt - u)) .0 e in
+          let g = and-facts (formOk most (formIn s)) (tableFits (formIn s) (tableIn s)) .0 (f .0) in
+          record {
+            first = g .0;
+            table = g .1;
+            rest = λ k p q. zeros-all s 0 u (checkAt - u) (f .1) k p (omega arith);
+          },
+      λ r.
+          rw (r .first, r .table)
+          (all-zeros s 0 u (checkAt - u) (λ j p q. r .rest j p (omega (arith, words-few s (fits-few s (r .table)))))),
+    )
 
 -- ---- a later block
 pub record GoodEvents (s : List ℕ) (b : ℕ) (last : Bool) : Type 0 where
   pub few : 1 ≤ word s b 0
   pub many : word s b 0 ≤ perBlock
   pub full : last ≡ false → word s b 0 ≡ perBlock
-  pub fields : (j : ℕ) → j < word s b 0 → word s b (1 + j * 2) < 65536
+  pub fields : (j : ℕ) → j < word s b 0 → word s b (1 + j * 2) < formIn s * 65536
   pub zero : (k : ℕ) → 1 + word s b 0 * 2 ≤ k → k < checkAt → word s b k ≡ 0
 
 fit-iff : (m : ℕ) (last : Bool) → (eventsFit m last ≡ true) ↔ ((1 ≤ m) × (m ≤ perBlock) × (last ≡ false → m ≡ perBlock))
@@ -107,19 +108,19 @@ events-iff s b last = (
 )
 
 -- ---- the sheet
-module _ (s : List ℕ) where
+module _ (most : ℕ) (s : List ℕ) where
   abbrev n : ℕ
   n = blocksIn (length s)
 
-  later : (b : ℕ) → 1 ≤ b → GoodBlock s n b → GoodEvents s b (eqb (b + 1) n)
+  later : (b : ℕ) → 1 ≤ b → GoodBlock most s n b → GoodEvents s b (eqb (b + 1) n)
   later b h g = events-iff s b (eqb (b + 1) n) .0 (rw (ne-eqb b 0 (λ z. omega arith)) at (g .filled))
 
-  pub accepted-good : verdictOf s .number ≡ 0 → Good n s
+  pub accepted-good : verdictUpTo most s .number ≡ 0 → Good most n s
   accepted-good z =
-      let f = good-blocks s .0 z in
+      let f = good-blocks most s .0 z in
       let w = whole (length s) (f .0) in
-      let g : (b : ℕ) → b < n → GoodBlock s n b = λ b q. f .1 b (omega arith) q in
-      let o = head-iff s .0 (g 0 (omega (arith, w .some)) .filled) in
+      let g : (b : ℕ) → b < n → GoodBlock most s n b = λ b q. f .1 b (omega arith) q in
+      let o = head-iff most s .0 (g 0 (omega (arith, w .some)) .filled) in
       record {
         some = w .some;
         most = w .most;
@@ -135,8 +136,8 @@ module _ (s : List ℕ) where
         zero = λ b h q. later b h (g b q) .zero;
       }
 
-  block-of : Good n s → (b : ℕ) → b < n → (t : Bool) → eqb b 0 ≡ t → contentsOk s n b ≡ true
-  block-of r b q true e = rw e (head-iff s .1 (record { first = r .first; table = r .table; rest = r .rest }))
+  block-of : Good most n s → (b : ℕ) → b < n → (t : Bool) → eqb b 0 ≡ t → contentsOk most s n b ≡ true
+  block-of r b q true e = rw e (head-iff most s .1 (record { first = r .first; table = r .table; rest = r .rest }))
   block-of r b q false e =
       let h : 1 ≤ b = below b (eqb-false b 0 e) in
       rw e
@@ -155,7 +156,7 @@ module _ (s : List ℕ) where
       lower : (c m : ℕ) → c ≤ m → (c ≡ m → ⊥) → c < m
       lower c m h f = omega arith
 
-  good-length : Good n s → lengthOk (length s) ≡ true
+  good-length : Good most n s → lengthOk (length s) ≡ true
   unfolding lengthOk
   good-length r =
       let l : length s ≡ n * blockBytes = r .long in
@@ -163,9 +164,9 @@ module _ (s : List ℕ) where
       let m = r .most in
       rw (eq-eqb (length s % blockBytes) 0 (omega arith), le-leb blockBytes (length s) (omega arith), le-leb (length s) (mostBlocks * blockBytes) (omega arith))
 
-  pub good-accepted : Good n s → verdictOf s .number ≡ 0
+  pub good-accepted : Good most n s → verdictUpTo most s .number ≡ 0
   good-accepted r =
-      good-blocks s .1 (
+      good-blocks most s .1 (
         good-length r,
         λ b p q. record {
           checked = checks-iff s b b .1 (r .sums b q);

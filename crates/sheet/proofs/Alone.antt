@@ -13,7 +13,7 @@ use native.Mathlib.Omega.{arith}
 use Rattle.relay.proofs.Truth.{facts}
 use Rattle.sheet.specs.Layout.{blockBytes, blockWords, checkBase, checkWrong}
 use Rattle.sheet.specs.Check.{sum, word, checksAs, checks, checksAlone, blockOf}
-use Rattle.sheet.specs.Reading.{lengthOk, blocksIn, verdict, verdictOf}
+use Rattle.sheet.specs.Reading.{lengthOk, blocksIn, verdict, verdictUpTo}
 use Rattle.sheet.specs.declared.Verdict.{Verdict}
 use Rattle.sheet.proofs.Bytes.{word-drop, word-take}
 use Rattle.sheet.proofs.First.{AllGood, NamedSheet, bad-length, blocks, all-good, bad-check, bad-contents, upper, other, verdict-iff, good-blocks}
@@ -45,7 +45,7 @@ module _ (t : List ℕ) where
   one-number b c p q = omega (arith, alone-iff b .0 p .1, alone-iff c .0 q .1)
 
 -- ---- the blocks of a sheet s
-module _ (s : List ℕ) where
+module _ (most : ℕ) (s : List ℕ) where
   abbrev n : ℕ
   n = blocksIn (length s)
 
@@ -67,13 +67,13 @@ module _ (s : List ℕ) where
   inside b e q = omega (arith, whole (length s) e .long)
 
   -- an accepted sheet's blocks check by themselves
-  pub accepted-alone : verdictOf s .number ≡ 0 → (b : ℕ) → b < n → checksAlone (blockOf s b) b ≡ true
+  pub accepted-alone : verdictUpTo most s .number ≡ 0 → (b : ℕ) → b < n → checksAlone (blockOf s b) b ≡ true
   accepted-alone z b q =
-      let g = good-blocks s .0 z in
+      let g = good-blocks most s .0 z in
       alone-checks b (inside b (g .0) q) ∙ g .1 b (omega arith) q .checked
 
-  nineteen : (v : Verdict) → NamedSheet s v → v .number ≡ checkWrong
-      → (lengthOk (length s) ≡ true) × (v .block < n) × AllGood s n 0 (v .block) × (checks s (v .block) ≡ false)
+  nineteen : (v : Verdict) → NamedSheet most s v → v .number ≡ checkWrong
+      → (lengthOk (length s) ≡ true) × (v .block < n) × AllGood most s n 0 (v .block) × (checks s (v .block) ≡ false)
   nineteen v (bad-length e) z = absurd (omega arith)
   nineteen v (blocks e (all-good f)) z = absurd (omega arith)
   nineteen v (blocks e (bad-check x a y f c)) z = (e, y, f, c)
@@ -81,13 +81,13 @@ module _ (s : List ℕ) where
   nineteen v (blocks e (bad-contents x a y f c d (other u))) z = absurd (omega arith)
 
   -- reading says 19 and block b exactly when the blocks before it are good and block b by itself does not check
-  pub nineteen-iff : (b : ℕ) → (verdictOf s ≡ verdict checkWrong b)
-      ↔ ((lengthOk (length s) ≡ true) × (b < n) × AllGood s n 0 b × (checksAlone (blockOf s b) b ≡ false))
+  pub nineteen-iff : (b : ℕ) → (verdictUpTo most s ≡ verdict checkWrong b)
+      ↔ ((lengthOk (length s) ≡ true) × (b < n) × AllGood most s n 0 b × (checksAlone (blockOf s b) b ≡ false))
   nineteen-iff b = (
     λ e.
-        let r = nineteen (verdict checkWrong b) (verdict-iff s (verdict checkWrong b) .0 e) refl in
+        let r = nineteen (verdict checkWrong b) (verdict-iff most s (verdict checkWrong b) .0 e) refl in
         (r .0, r .1, r .2, alone-checks b (inside b (r .0) (r .1)) ∙ r .3),
     λ r.
         let c = sym (alone-checks b (inside b (r .0) (r .1))) ∙ r .3 in
-        verdict-iff s (verdict checkWrong b) .1 (blocks (r .0) (bad-check b (omega arith) (r .1) (r .2) c)),
+        verdict-iff most s (verdict checkWrong b) .1 (blocks (r .0) (bad-check b (omega arith) (r .1) (r .2) c)),
   )

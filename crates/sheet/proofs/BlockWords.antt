@@ -8,17 +8,17 @@ use lib.ListN.{length, getD, List·getD-eq-default}
 use native.Mathlib.Omega.{arith}
 use Rattle.sheet.specs.Layout.{checkAt, perBlock}
 use Rattle.sheet.specs.Check.{sum, seal}
-use Rattle.sheet.specs.Entry.{entryWord, stampOf}
-use Rattle.sheet.specs.Sheet.{Sheet, eventAt, held, headWord, eventsWord, bodyWord, sheetWord}
+use Rattle.sheet.specs.Entry.{entryWord, onTrack, stampOf}
+use Rattle.sheet.specs.Sheet.{Tracked, entryAt, trackAt, postsOf, held, headWord, eventsWord, bodyWord, sheetWord}
 use Rattle.sheet.proofs.Bytes.{Below}
 
 -- ---- block 0
-module _ (t : Sheet) where
-  pub head-first : headWord t 0 ≡ 1
+module _ (t : Tracked) where
+  pub head-first : headWord t 0 ≡ t .form
   unfolding headWord
   head-first = refl
 
-  pub head-count : headWord t 1 ≡ length (t .kinds)
+  pub head-count : headWord t 1 ≡ postsOf (t .form) (length (t .table))
   unfolding headWord
   head-count = refl
 
@@ -26,23 +26,23 @@ module _ (t : Sheet) where
   unfolding headWord
   head-stamp = refl
 
-  pub head-kind : (i : ℕ) → headWord t (3 + i) ≡ getD (t .kinds) i 0
+  pub head-kind : (i : ℕ) → headWord t (3 + i) ≡ getD (t .table) i 0
   unfolding headWord
   head-kind i = let e : 3 + i ≡ suc (suc (suc i)) = omega arith in rw e
 
-  pub head-zero : (k : ℕ) → 3 + length (t .kinds) ≤ k → headWord t k ≡ 0
+  pub head-zero : (k : ℕ) → 3 + length (t .table) ≤ k → headWord t k ≡ 0
   unfolding headWord
-  head-zero k h = List·getD-eq-default (1 ∷ length (t .kinds) ∷ t .stamp ∷ t .kinds) 0 {n = k} (omega arith)
+  head-zero k h = List·getD-eq-default (t .form ∷ postsOf (t .form) (length (t .table)) ∷ t .stamp ∷ t .table) 0 {n = k} (omega arith)
 
-  pub head-small : length (t .kinds) < 2 ^ 32 → t .stamp < 2 ^ 32 → Below (2 ^ 32) (t .kinds) → (k : ℕ) → headWord t k < 2 ^ 32
+  pub head-small : t .form < 2 ^ 32 → postsOf (t .form) (length (t .table)) < 2 ^ 32 → t .stamp < 2 ^ 32 → Below (2 ^ 32) (t .table) → (k : ℕ) → headWord t k < 2 ^ 32
   unfolding headWord
-  head-small n s h zero = omega arith
-  head-small n s h (suc zero) = n
-  head-small n s h (suc (suc zero)) = s
-  head-small n s h (suc (suc (suc i))) = h i
+  head-small f n s h zero = f
+  head-small f n s h (suc zero) = n
+  head-small f n s h (suc (suc zero)) = s
+  head-small f n s h (suc (suc (suc i))) = h i
 
 -- ---- event block c
-module _ (t : Sheet) (c : ℕ) where
+module _ (t : Tracked) (c : ℕ) where
   abbrev m : ℕ
   m = held (length (t .events)) c
 
@@ -50,14 +50,14 @@ module _ (t : Sheet) (c : ℕ) where
   unfolding eventsWord
   events-count = refl
 
-  pub events-word : (j : ℕ) → j < m → eventsWord t c (1 + j * 2) ≡ entryWord (eventAt t (c * perBlock + j))
+  pub events-word : (j : ℕ) → j < m → eventsWord t c (1 + j * 2) ≡ onTrack (entryWord (entryAt t (c * perBlock + j))) (trackAt t (c * perBlock + j))
   unfolding eventsWord
   events-word j h =
       let o : 1 + j * 2 ≡ 0 → ⊥ = λ e. omega arith in
       let b : (1 + j * 2 - 1) / 2 ≡ j = omega arith in
       rw (ne-eqb (1 + j * 2) 0 o, le-ltb (m * 2) (1 + j * 2) (omega arith), eq-eqb ((1 + j * 2) % 2) 1 (omega arith), b)
 
-  pub events-stamp : (j : ℕ) → j < m → eventsWord t c (2 + j * 2) ≡ stampOf (eventAt t (c * perBlock + j))
+  pub events-stamp : (j : ℕ) → j < m → eventsWord t c (2 + j * 2) ≡ stampOf (entryAt t (c * perBlock + j))
   unfolding eventsWord
   events-stamp j h =
       let o : 2 + j * 2 ≡ 0 → ⊥ = λ e. omega arith in
@@ -72,7 +72,7 @@ module _ (t : Sheet) (c : ℕ) where
       rw (ne-eqb k 0 o, lt-ltb (m * 2) k (omega arith))
 
 -- ---- any block
-module _ (t : Sheet) (b : ℕ) where
+module _ (t : Tracked) (b : ℕ) where
   pub body-is : (k : ℕ) → k < checkAt → sheetWord t b k ≡ bodyWord t b k
   unfolding sheetWord
   body-is k h = rw (lt-ltb k checkAt h)
@@ -82,7 +82,7 @@ module _ (t : Sheet) (b : ℕ) where
   check-is = refl
 
 -- a later block's body is that of its events
-pub body-events : (t : Sheet) (c k : ℕ) → bodyWord t (c + 1) k ≡ eventsWord t c k
+pub body-events : (t : Tracked) (c k : ℕ) → bodyWord t (c + 1) k ≡ eventsWord t c k
 body-events t c k =
     let o : c + 1 ≡ 0 → ⊥ = λ e. omega arith in
     let b : c + 1 - 1 ≡ c = omega arith in

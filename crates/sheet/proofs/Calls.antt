@@ -11,17 +11,18 @@ use borrow.Author.Tests.{ne-eqb, eqb-true, eqb-false, le-leb}
 use lib.ListN.{length, take, drop}
 use lib.Seq.{take-at}
 use Rattle.relay.proofs.Truth.{split}
+use Rattle.sheet.specs.Layout.{oneTrack}
 use Rattle.sheet.specs.Reading.{blocksIn, accepted, verdictOf, decode, found, roomFor, readOf, Reads}
 use Rattle.sheet.specs.Sheet.{Sheet, encode}
 use Rattle.sheet.specs.Writing.{bytesFor, writeNumber, written, Writes}
 use Rattle.sheet.specs.declared.Found.{Found}
 use Rattle.sheet.proofs.Accepts.{accepted-good}
 use Rattle.sheet.proofs.Bytes.{Below}
-use Rattle.sheet.proofs.Laid.{wrote}
+use Rattle.sheet.proofs.Laid.{wrote-one}
 use Rattle.sheet.proofs.One.{read-one, write-one}
 use Rattle.sheet.proofs.Rooms.{bytes-are, events-long, read-found}
 use Rattle.sheet.proofs.TripRead.{decoded-writable}
-use Rattle.sheet.proofs.TripWritten.{written-good}
+use Rattle.sheet.proofs.TripWritten.{good-one}
 use Rattle.sheet.proofs.Trips.{written-accepted, written-read, read-written}
 use Rattle.sheet.proofs.Writable.{Writable, Typed, took}
 
@@ -54,7 +55,7 @@ module _ (t : Sheet) (typed : Typed t) where
     unfolding written
     bytes =
         let e : out′ ≡ encode t ++ drop (bytesFor (length (t .events))) out = w .1 ∙ rw number in
-        ap (take (bytesFor (length (t .events)))) e ∙ take-at (encode t) _ _ (written-good t writable .long)
+        ap (take (bytesFor (length (t .events)))) e ∙ take-at (encode t) _ _ (good-one t writable .long)
 
     -- if writing returned 0, reading the sheet's bytes from the output, with room enough, returns 0 and hands out what was written
     pub write-then-read : (f : Found) (ks ks′ : List ℕ) (es es′ : List (List ℕ)) → length (t .kinds) ≤ length ks → length (t .events) ≤ length es
@@ -89,9 +90,9 @@ module _ (s : List ℕ) (small : Below 256 s) where
       let e : f ≡ found (decode s) = q .0 ∙ a .1 in
       let k : take (f .posts) ks′ ≡ decode s .kinds = rw (q .1, e) (take-at (decode s .kinds) _ _ refl) in
       let m : take (f .events) es′ ≡ decode s .events = rw (q .2, e) (take-at (decode s .events) _ _ refl) in
-      let v = decoded-writable (blocksIn (length s)) s (accepted-good s (a .0)) small in
-      let size : bytesFor (length (decode s .events)) ≡ length s = ap bytesFor (events-long s) ∙ bytes-are s (a .0) in
-      let o = wrote (decode s) out (v .table) (v .fields) (v .most) (omega arith) in
+      let v = decoded-writable (blocksIn (length s)) s (accepted-good oneTrack s (a .0)) small in
+      let size : bytesFor (length (decode s .events)) ≡ length s = ap bytesFor (events-long s) ∙ bytes-are oneTrack s (a .0) in
+      let o = wrote-one (decode s) out (v .table) (v .fields) (v .most) (omega arith) in
       let w′ : Writes (decode s) r out out′ = rw (k, m, e) at w in
       let one = write-one (decode s) r 0 out out′ _ w′ o in
       (one .0, one .1 ∙ rw (size, read-written s small (a .0)))

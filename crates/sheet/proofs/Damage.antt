@@ -13,7 +13,7 @@ use native.Mathlib.Nat.{eq-or-lt-of-le, le-of-suc-le-suc}
 use native.Mathlib.Omega.{arith}
 use Rattle.sheet.specs.Layout.{blockWords, checkWrong}
 use Rattle.sheet.specs.Check.{sum, word, target, checksAs, checks}
-use Rattle.sheet.specs.Reading.{lengthOk, blocksIn, verdict, verdictOf}
+use Rattle.sheet.specs.Reading.{lengthOk, blocksIn, verdict, verdictUpTo}
 use Rattle.sheet.proofs.First.{AllGood, verdict-iff, blocks, bad-check}
 use Rattle.sheet.proofs.Sums.{sum-agree}
 
@@ -56,18 +56,18 @@ two-places s s′ b c other same good =
     rw (← sum-agree (word s b) (word s′ c) blockWords same) (ne-eqb (m % 2 ^ 32) (target c) (λ e′. other (omega arith)))
 
 -- ---- to the end: reading is refused 19, with that block, where all blocks before it are good
-module _ (s s′ : List ℕ) (right : lengthOk (length s′) ≡ true) where
+module _ (most : ℕ) (s s′ : List ℕ) (right : lengthOk (length s′) ≡ true) where
   -- the first block that does not check is named
-  named : (b : ℕ) → b < blocksIn (length s′) → AllGood s′ (blocksIn (length s′)) 0 b → checks s′ b ≡ false → verdictOf s′ ≡ verdict checkWrong b
-  named b h f c = verdict-iff s′ (verdict checkWrong b) .1 (blocks right (bad-check b (omega arith) h f c))
+  named : (b : ℕ) → b < blocksIn (length s′) → AllGood most s′ (blocksIn (length s′)) 0 b → checks s′ b ≡ false → verdictUpTo most s′ ≡ verdict checkWrong b
+  named b h f c = verdict-iff most s′ (verdict checkWrong b) .1 (blocks right (bad-check b (omega arith) h f c))
 
   -- one word of block b of s is another in s′
-  pub one-word-refused : (b k : ℕ) → b < blocksIn (length s′) → AllGood s′ (blocksIn (length s′)) 0 b
+  pub one-word-refused : (b k : ℕ) → b < blocksIn (length s′) → AllGood most s′ (blocksIn (length s′)) 0 b
       → k < blockWords → word s b k < 2 ^ 32 → word s′ b k < 2 ^ 32 → word s b k ≢ word s′ b k
-      → ((j : ℕ) → j < blockWords → j ≢ k → word s b j ≡ word s′ b j) → checks s b ≡ true → verdictOf s′ ≡ verdict checkWrong b
+      → ((j : ℕ) → j < blockWords → j ≢ k → word s b j ≡ word s′ b j) → checks s b ≡ true → verdictUpTo most s′ ≡ verdict checkWrong b
   one-word-refused b k h f l small small′ other same good = named b h f (one-word s s′ b k l small small′ other same good)
 
   -- block b of s stands in s′ as block c
-  pub two-places-refused : (b c : ℕ) → c < blocksIn (length s′) → AllGood s′ (blocksIn (length s′)) 0 c → b ≢ c
-      → ((k : ℕ) → k < blockWords → word s b k ≡ word s′ c k) → checks s b ≡ true → verdictOf s′ ≡ verdict checkWrong c
+  pub two-places-refused : (b c : ℕ) → c < blocksIn (length s′) → AllGood most s′ (blocksIn (length s′)) 0 c → b ≢ c
+      → ((k : ℕ) → k < blockWords → word s b k ≡ word s′ c k) → checks s b ≡ true → verdictUpTo most s′ ≡ verdict checkWrong c
   two-places-refused b c h f other same good = named c h f (two-places s s′ b c other same good)

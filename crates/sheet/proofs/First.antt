@@ -14,27 +14,27 @@ use lib.ListN.{length}
 use Rattle.relay.specs.Choice.{pick}
 use Rattle.sheet.specs.Layout.{checkWrong, contentsWrong, lengthWrong, upperBits}
 use Rattle.sheet.specs.Check.{word, checks}
-use Rattle.sheet.specs.Reading.{firstUpper, entriesOk, eventsFit, eventsOk, contentsOk, verdictAt, verdict, contentsFault, firstBad, lengthOk, blocksIn, verdictOf}
+use Rattle.sheet.specs.Reading.{formIn, firstUpper, entriesOk, eventsFit, eventsOk, contentsOk, verdictAt, verdict, contentsFault, firstBad, lengthOk, blocksIn, verdictUpTo}
 use Rattle.sheet.specs.declared.Verdict.{Verdict}
 use Rattle.sheet.proofs.Lengths.{wrong-length, right-length}
 use Rattle.sheet.proofs.Upper.{IsFirst, first-upper, one-first}
 
 -- block b of a sheet of n blocks is good
-pub record GoodBlock (s : List ℕ) (n b : ℕ) : Type 0 where
+pub record GoodBlock (most : ℕ) (s : List ℕ) (n b : ℕ) : Type 0 where
   pub checked : checks s b ≡ true
-  pub filled : contentsOk s n b ≡ true
+  pub filled : contentsOk most s n b ≡ true
 
 -- the blocks from b up to, not including, e are good
-abbrev pub AllGood : List ℕ → ℕ → ℕ → ℕ → Type 0
-AllGood s n b e = (j : ℕ) → b ≤ j → j < e → GoodBlock s n j
+abbrev pub AllGood : ℕ → List ℕ → ℕ → ℕ → ℕ → Type 0
+AllGood most s n b e = (j : ℕ) → b ≤ j → j < e → GoodBlock most s n j
 
 -- the number of events of block x is right, and event p is the first of them whose word has upper bits
 pub record UpperAt (s : List ℕ) (n x p : ℕ) : Type 0 where
   pub later : 1 ≤ x
   pub count : eventsFit (word s x 0) (eqb (x + 1) n) ≡ true
   pub held : p < word s x 0
-  pub before : (j : ℕ) → j < p → word s x (1 + j * 2) < 65536
-  pub here : 65536 ≤ word s x (1 + p * 2)
+  pub before : (j : ℕ) → j < p → word s x (1 + j * 2) < formIn s * 65536
+  pub here : formIn s * 65536 ≤ word s x (1 + p * 2)
 
 -- what contents of block x that depart from the layout are refused with: 24 where there is such an event, which it names, else 20
 pub data Departs (s : List ℕ) (n x : ℕ) : Verdict → Type 0 where
@@ -42,10 +42,10 @@ pub data Departs (s : List ℕ) (n x : ℕ) : Verdict → Type 0 where
   other : ((p : ℕ) → UpperAt s n x p → ⊥) → Departs s n x (verdict contentsWrong x)
 
 -- what a verdict on these blocks may be
-pub data Named (s : List ℕ) (n b e : ℕ) : Verdict → Type 0 where
-  all-good : AllGood s n b e → Named s n b e (verdict 0 0)
-  bad-check : (x : ℕ) → b ≤ x → x < e → AllGood s n b x → checks s x ≡ false → Named s n b e (verdict checkWrong x)
-  bad-contents : (x : ℕ) {v : Verdict} → b ≤ x → x < e → AllGood s n b x → checks s x ≡ true → contentsOk s n x ≡ false → Departs s n x v → Named s n b e v
+pub data Named (most : ℕ) (s : List ℕ) (n b e : ℕ) : Verdict → Type 0 where
+  all-good : AllGood most s n b e → Named most s n b e (verdict 0 0)
+  bad-check : (x : ℕ) → b ≤ x → x < e → AllGood most s n b x → checks s x ≡ false → Named most s n b e (verdict checkWrong x)
+  bad-contents : (x : ℕ) {v : Verdict} → b ≤ x → x < e → AllGood most s n b x → checks s x ≡ true → contentsOk most s n x ≡ false → Departs s n x v → Named most s n b e v
 
 -- ---- the contents of one block
 module _ (s : List ℕ) (n x : ℕ) where
@@ -92,100 +92,100 @@ module _ (s : List ℕ) (n x : ℕ) where
 
 -- ---- along the blocks
 -- one good block more in front
-front : {s : List ℕ} {n b e : ℕ} → GoodBlock s n b → AllGood s n (b + 1) e → AllGood s n b e
-front {s} {n} {b} g f j p q = ⊎-elim (λ t. subst (GoodBlock s n) t g) (λ l. f j (omega arith) q) (eq-or-lt-of-le p)
+front : {most : ℕ} {s : List ℕ} {n b e : ℕ} → GoodBlock most s n b → AllGood most s n (b + 1) e → AllGood most s n b e
+front {most} {s} {n} {b} g f j p q = ⊎-elim (λ t. subst (GoodBlock most s n) t g) (λ l. f j (omega arith) q) (eq-or-lt-of-le p)
 
-more : {s : List ℕ} {n b e : ℕ} {v : Verdict} → GoodBlock s n b → Named s n (b + 1) e v → Named s n b e v
+more : {most : ℕ} {s : List ℕ} {n b e : ℕ} {v : Verdict} → GoodBlock most s n b → Named most s n (b + 1) e v → Named most s n b e v
 more g (all-good f) = all-good (front g f)
 more g (bad-check x a z f c) = bad-check x (omega arith) z (front g f) c
 more g (bad-contents x a z f c d o) = bad-contents x (omega arith) z (front g f) c d o
 
 -- a turn, by the two tests
-turn : (s : List ℕ) (n b e : ℕ) (v : Verdict) → b < e → Named s n (b + 1) e v → (t u : Bool) → checks s b ≡ t → contentsOk s n b ≡ u
-    → Named s n b e (pick (not t) (verdict checkWrong b) (pick (not u) (contentsFault s n b) v))
-turn s n b e v h r true true p q = more (record { checked = p; filled = q }) r
-turn s n b e v h r true false p q = bad-contents b (omega arith) h (λ j x y. absurd (omega arith)) p q (departs s n b)
-turn s n b e v h r false u p q = bad-check b (omega arith) h (λ j x y. absurd (omega arith)) p
+turn : (most : ℕ) (s : List ℕ) (n b e : ℕ) (v : Verdict) → b < e → Named most s n (b + 1) e v → (t u : Bool) → checks s b ≡ t → contentsOk most s n b ≡ u
+    → Named most s n b e (pick (not t) (verdict checkWrong b) (pick (not u) (contentsFault s n b) v))
+turn most s n b e v h r true true p q = more (record { checked = p; filled = q }) r
+turn most s n b e v h r true false p q = bad-contents b (omega arith) h (λ j x y. absurd (omega arith)) p q (departs s n b)
+turn most s n b e v h r false u p q = bad-check b (omega arith) h (λ j x y. absurd (omega arith)) p
 
-pub names : (s : List ℕ) (n b m e : ℕ) → b + m ≡ e → Named s n b e (firstBad s n b m)
+pub names : (most : ℕ) (s : List ℕ) (n b m e : ℕ) → b + m ≡ e → Named most s n b e (firstBad most s n b m)
 unfolding firstBad
-names s n b zero e h = all-good (λ j x y. absurd (omega arith))
-names s n b (suc m) e h =
-    turn s n b e (firstBad s n (b + 1) m) (omega arith) (names s n (b + 1) m e (omega arith)) (checks s b) (contentsOk s n b) refl refl
+names most s n b zero e h = all-good (λ j x y. absurd (omega arith))
+names most s n b (suc m) e h =
+    turn most s n b e (firstBad most s n (b + 1) m) (omega arith) (names most s n (b + 1) m e (omega arith)) (checks s b) (contentsOk most s n b) refl refl
 
 -- what a verdict on a whole sheet may be: the length is tested first
-pub data NamedSheet (s : List ℕ) : Verdict → Type 0 where
-  bad-length : lengthOk (length s) ≡ false → NamedSheet s (verdict lengthWrong 0)
-  blocks : {v : Verdict} → lengthOk (length s) ≡ true → Named s (blocksIn (length s)) 0 (blocksIn (length s)) v → NamedSheet s v
+pub data NamedSheet (most : ℕ) (s : List ℕ) : Verdict → Type 0 where
+  bad-length : lengthOk (length s) ≡ false → NamedSheet most s (verdict lengthWrong 0)
+  blocks : {v : Verdict} → lengthOk (length s) ≡ true → Named most s (blocksIn (length s)) 0 (blocksIn (length s)) v → NamedSheet most s v
 
-sheet-by : (s : List ℕ) (t : Bool) → lengthOk (length s) ≡ t → NamedSheet s (verdictOf s)
-sheet-by s true e = subst (NamedSheet s) (sym (right-length s e)) (blocks e (names s (blocksIn (length s)) 0 (blocksIn (length s)) (blocksIn (length s)) (omega arith)))
-sheet-by s false e = subst (NamedSheet s) (sym (wrong-length s e)) (bad-length e)
+sheet-by : (most : ℕ) (s : List ℕ) (t : Bool) → lengthOk (length s) ≡ t → NamedSheet most s (verdictUpTo most s)
+sheet-by most s true e = subst (NamedSheet most s) (sym (right-length most s e)) (blocks e (names most s (blocksIn (length s)) 0 (blocksIn (length s)) (blocksIn (length s)) (omega arith)))
+sheet-by most s false e = subst (NamedSheet most s) (sym (wrong-length most s e)) (bad-length e)
 
 -- 01: 'stops at once at the first bad block, naming it'
-pub named-sheet : (s : List ℕ) → NamedSheet s (verdictOf s)
-named-sheet s = sheet-by s (lengthOk (length s)) refl
+pub named-sheet : (most : ℕ) (s : List ℕ) → NamedSheet most s (verdictUpTo most s)
+named-sheet most s = sheet-by most s (lengthOk (length s)) refl
 
 -- ---- and what may be named is what reading names
 -- no block is named where all are good
-all-named : (s : List ℕ) (n b m : ℕ) → AllGood s n b (b + m) → firstBad s n b m ≡ verdict 0 0
+all-named : (most : ℕ) (s : List ℕ) (n b m : ℕ) → AllGood most s n b (b + m) → firstBad most s n b m ≡ verdict 0 0
 unfolding firstBad
-all-named s n b zero f = refl
-all-named s n b (suc m) f =
+all-named most s n b zero f = refl
+all-named most s n b (suc m) f =
     let g = f b (omega arith) (omega arith) in
-    rw (g .checked, g .filled) (all-named s n (b + 1) m (λ j p q. f j (omega arith) (omega arith)))
+    rw (g .checked, g .filled) (all-named most s n (b + 1) m (λ j p q. f j (omega arith) (omega arith)))
 
 -- a block after good ones, at which reading stops with v whatever follows, is named so
-stops : (s : List ℕ) (n b m x : ℕ) (v : Verdict) → b ≤ x → x < b + m → AllGood s n b x
-    → ((r : Verdict) → pick (not (checks s x)) (verdict checkWrong x) (pick (not (contentsOk s n x)) (contentsFault s n x) r) ≡ v)
-    → firstBad s n b m ≡ v
+stops : (most : ℕ) (s : List ℕ) (n b m x : ℕ) (v : Verdict) → b ≤ x → x < b + m → AllGood most s n b x
+    → ((r : Verdict) → pick (not (checks s x)) (verdict checkWrong x) (pick (not (contentsOk most s n x)) (contentsFault s n x) r) ≡ v)
+    → firstBad most s n b m ≡ v
 unfolding firstBad
-stops s n b zero x v h k f bad = absurd (omega arith)
-stops s n b (suc m) x v h k f bad =
+stops most s n b zero x v h k f bad = absurd (omega arith)
+stops most s n b (suc m) x v h k f bad =
     ⊎-elim
-    (λ (e : b ≡ x). rw e (bad (firstBad s n (x + 1) m)))
+    (λ (e : b ≡ x). rw e (bad (firstBad most s n (x + 1) m)))
     (λ (l : b < x).
     let g = f b (omega arith) l in
-    rw (g .checked, g .filled) (stops s n (b + 1) m x v (omega arith) (omega arith) (λ j p q. f j (omega arith) q) bad))
+    rw (g .checked, g .filled) (stops most s n (b + 1) m x v (omega arith) (omega arith) (λ j p q. f j (omega arith) q) bad))
     (eq-or-lt-of-le h)
 
-all-names : (s : List ℕ) (n : ℕ) (v : Verdict) → Named s n 0 n v → firstBad s n 0 n ≡ v
-all-names s n v (all-good f) = all-named s n 0 n (λ j p q. f j p (omega arith))
-all-names s n v (bad-check x p q f c) = stops s n 0 n x (verdict checkWrong x) p (omega arith) f (λ r. rw c)
-all-names s n v (bad-contents x p q f c d o) = stops s n 0 n x v p (omega arith) f (λ r. rw (c, d) (one-fault s n x _ v (departs s n x) o))
+all-names : (most : ℕ) (s : List ℕ) (n : ℕ) (v : Verdict) → Named most s n 0 n v → firstBad most s n 0 n ≡ v
+all-names most s n v (all-good f) = all-named most s n 0 n (λ j p q. f j p (omega arith))
+all-names most s n v (bad-check x p q f c) = stops most s n 0 n x (verdict checkWrong x) p (omega arith) f (λ r. rw c)
+all-names most s n v (bad-contents x p q f c d o) = stops most s n 0 n x v p (omega arith) f (λ r. rw (c, d) (one-fault s n x _ v (departs s n x) o))
 
-names-sheet : (s : List ℕ) (v : Verdict) → NamedSheet s v → verdictOf s ≡ v
-names-sheet s v (bad-length e) = wrong-length s e
-names-sheet s v (blocks e b) = right-length s e ∙ all-names s (blocksIn (length s)) v b
+names-sheet : (most : ℕ) (s : List ℕ) (v : Verdict) → NamedSheet most s v → verdictUpTo most s ≡ v
+names-sheet most s v (bad-length e) = wrong-length most s e
+names-sheet most s v (blocks e b) = right-length most s e ∙ all-names most s (blocksIn (length s)) v b
 
 -- 18, 19, 20 and 24 'given exactly when', with the block and the event's position: a verdict is that of reading exactly when it may be named
-pub verdict-iff : (s : List ℕ) (v : Verdict) → (verdictOf s ≡ v) ↔ NamedSheet s v
-verdict-iff s v = (λ e. subst (NamedSheet s) e (named-sheet s), names-sheet s v)
+pub verdict-iff : (most : ℕ) (s : List ℕ) (v : Verdict) → (verdictUpTo most s ≡ v) ↔ NamedSheet most s v
+verdict-iff most s v = (λ e. subst (NamedSheet most s) e (named-sheet most s), names-sheet most s v)
 
-none-named : (s : List ℕ) (v : Verdict) → NamedSheet s v → v .number ≡ 0 → (lengthOk (length s) ≡ true) × AllGood s (blocksIn (length s)) 0 (blocksIn (length s))
-none-named s v (bad-length e) z = absurd (omega arith)
-none-named s v (blocks e (all-good f)) z = (e, f)
-none-named s v (blocks e (bad-check x a y f c)) z = absurd (omega arith)
-none-named s v (blocks e (bad-contents x a y f c d (upper p u))) z = absurd (omega arith)
-none-named s v (blocks e (bad-contents x a y f c d (other u))) z = absurd (omega arith)
+none-named : (most : ℕ) (s : List ℕ) (v : Verdict) → NamedSheet most s v → v .number ≡ 0 → (lengthOk (length s) ≡ true) × AllGood most s (blocksIn (length s)) 0 (blocksIn (length s))
+none-named most s v (bad-length e) z = absurd (omega arith)
+none-named most s v (blocks e (all-good f)) z = (e, f)
+none-named most s v (blocks e (bad-check x a y f c)) z = absurd (omega arith)
+none-named most s v (blocks e (bad-contents x a y f c d (upper p u))) z = absurd (omega arith)
+none-named most s v (blocks e (bad-contents x a y f c d (other u))) z = absurd (omega arith)
 
 -- a sheet is accepted exactly when its length is right and all its blocks are good
-pub good-blocks : (s : List ℕ) → (verdictOf s .number ≡ 0) ↔ ((lengthOk (length s) ≡ true) × AllGood s (blocksIn (length s)) 0 (blocksIn (length s)))
-good-blocks s = (
-  none-named s (verdictOf s) (named-sheet s),
-  λ g. ap (λ (v : Verdict). v .number) (names-sheet s (verdict 0 0) (blocks (g .0) (all-good (g .1)))),
+pub good-blocks : (most : ℕ) (s : List ℕ) → (verdictUpTo most s .number ≡ 0) ↔ ((lengthOk (length s) ≡ true) × AllGood most s (blocksIn (length s)) 0 (blocksIn (length s)))
+good-blocks most s = (
+  none-named most s (verdictUpTo most s) (named-sheet most s),
+  λ g. ap (λ (v : Verdict). v .number) (names-sheet most s (verdict 0 0) (blocks (g .0) (all-good (g .1)))),
 )
 
 -- ---- 02, item 6: by the number
 -- the position is 0 where no event is named
-pub named-none : (s : List ℕ) (v : Verdict) → NamedSheet s v → (v .number ≡ upperBits → ⊥) → v .position ≡ 0
-named-none s v (bad-length e) h = refl
-named-none s v (blocks e (all-good f)) h = refl
-named-none s v (blocks e (bad-check x a y f c)) h = refl
-named-none s v (blocks e (bad-contents x a y f c d (upper p u))) h = absurd (h refl)
-named-none s v (blocks e (bad-contents x a y f c d (other u))) h = refl
+pub named-none : (most : ℕ) (s : List ℕ) (v : Verdict) → NamedSheet most s v → (v .number ≡ upperBits → ⊥) → v .position ≡ 0
+named-none most s v (bad-length e) h = refl
+named-none most s v (blocks e (all-good f)) h = refl
+named-none most s v (blocks e (bad-check x a y f c)) h = refl
+named-none most s v (blocks e (bad-contents x a y f c d (upper p u))) h = absurd (h refl)
+named-none most s v (blocks e (bad-contents x a y f c d (other u))) h = refl
 
-module _ (s : List ℕ) where
+module _ (most : ℕ) (s : List ℕ) where
   abbrev n : ℕ
   n = blocksIn (length s)
 
@@ -193,11 +193,11 @@ module _ (s : List ℕ) where
   pub record AtContents (x : ℕ) : Type 0 where
     pub right : lengthOk (length s) ≡ true
     pub inside : x < n
-    pub before : AllGood s n 0 x
+    pub before : AllGood most s n 0 x
     pub checked : checks s x ≡ true
 
   -- an event with upper bits departs from the layout
-  upper-wrong : (x p : ℕ) → UpperAt s n x p → contentsOk s n x ≡ false
+  upper-wrong : (x p : ℕ) → UpperAt s n x p → contentsOk most s n x ≡ false
   unfolding eventsOk
   upper-wrong x p u =
       let m = word s x 0 in
@@ -205,8 +205,8 @@ module _ (s : List ℕ) where
       rw (ne-eqb x 0 (λ q. omega (arith, u .later)), u .count, short)
 
   -- 20 and 24 come from a block that reading has come to, whose contents depart
-  departing : (v : Verdict) → NamedSheet s v → (v .number ≡ contentsWrong) ⊎ (v .number ≡ upperBits)
-      → AtContents (v .block) × (contentsOk s n (v .block) ≡ false) × Departs s n (v .block) v
+  departing : (v : Verdict) → NamedSheet most s v → (v .number ≡ contentsWrong) ⊎ (v .number ≡ upperBits)
+      → AtContents (v .block) × (contentsOk most s n (v .block) ≡ false) × Departs s n (v .block) v
   departing v (bad-length e) z = absurd (⊎-elim (λ q. omega arith) (λ q. omega arith) z)
   departing v (blocks e (all-good f)) z = absurd (⊎-elim (λ q. omega arith) (λ q. omega arith) z)
   departing v (blocks e (bad-check x a y f c)) z = absurd (⊎-elim (λ q. omega arith) (λ q. omega arith) z)
@@ -218,14 +218,14 @@ module _ (s : List ℕ) where
   twenty-four x v (other u) z = absurd (omega arith)
 
   -- 24 with block x and position p exactly when all blocks before x are good, its check and its count are right, the event words before p have no upper bits and the one at p has
-  pub upper-iff : (x p : ℕ) → (verdictOf s ≡ verdictAt upperBits x p) ↔ (AtContents x × UpperAt s n x p)
+  pub upper-iff : (x p : ℕ) → (verdictUpTo most s ≡ verdictAt upperBits x p) ↔ (AtContents x × UpperAt s n x p)
   upper-iff x p = (
     λ e.
-        let r = departing (verdictAt upperBits x p) (verdict-iff s (verdictAt upperBits x p) .0 e) (inr refl) in
+        let r = departing (verdictAt upperBits x p) (verdict-iff most s (verdictAt upperBits x p) .0 e) (inr refl) in
         (r .0, twenty-four x (verdictAt upperBits x p) (r .2) refl),
     λ r.
         let f = r .0 in
-        verdict-iff s (verdictAt upperBits x p) .1 (blocks (f .right) (bad-contents x (omega arith) (f .inside) (f .before) (f .checked) (upper-wrong x p (r .1)) (upper p (r .1)))),
+        verdict-iff most s (verdictAt upperBits x p) .1 (blocks (f .right) (bad-contents x (omega arith) (f .inside) (f .before) (f .checked) (upper-wrong x p (r .1)) (upper p (r .1)))),
   )
 
   either : (x : ℕ) (v : Verdict) → Departs s n x v → (v .block ≡ x) × ((v .number ≡ contentsWrong) ⊎ (v .number ≡ upperBits))
@@ -233,11 +233,11 @@ module _ (s : List ℕ) where
   either x v (other u) = (refl, inl refl)
 
   -- 20 and 24 together are exactly the contents that depart from the layout
-  pub departs-iff : (x : ℕ) → ((verdictOf s .block ≡ x) × ((verdictOf s .number ≡ contentsWrong) ⊎ (verdictOf s .number ≡ upperBits))) ↔ (AtContents x × (contentsOk s n x ≡ false))
+  pub departs-iff : (x : ℕ) → ((verdictUpTo most s .block ≡ x) × ((verdictUpTo most s .number ≡ contentsWrong) ⊎ (verdictUpTo most s .number ≡ upperBits))) ↔ (AtContents x × (contentsOk most s n x ≡ false))
   departs-iff x = (
-    λ r. let d = departing (verdictOf s) (named-sheet s) (r .1) in rw (← r .0) (d .0, d .1),
+    λ r. let d = departing (verdictUpTo most s) (named-sheet most s) (r .1) in rw (← r .0) (d .0, d .1),
     λ r.
         let f = r .0 in
-        rw (names-sheet s (contentsFault s n x) (blocks (f .right) (bad-contents x (omega arith) (f .inside) (f .before) (f .checked) (r .1) (departs s n x))))
+        rw (names-sheet most s (contentsFault s n x) (blocks (f .right) (bad-contents x (omega arith) (f .inside) (f .before) (f .checked) (r .1) (departs s n x))))
         (either x (contentsFault s n x) (departs s n x)),
   )

@@ -1,25 +1,25 @@
 -- The numbers of writing and of reading into lent room, given exactly when: writing's as the paper's table gives them, row by row; reading's as First's, then 21.
 -- Assumes nothing.
-use Prim.Native.Nat.{ℕ, _+_, _*_, _/_, _≤_, _<_}
+use Prim.Native.Nat.{ℕ, _+_, _*_, _/_, _%_, _≤_, _<_}
 use mathlib.Core.Path.{_≡_, refl, subst}
 use mathlib.Core.Logic.{_↔_, _⊎_, inl, inr}
 use mathlib.Core.Bool.{Bool, true, false, not, _&&_, _||_, and-false}
 use mathlib.Core.List.{List, [], _∷_}
 use native.Mathlib.Omega.{arith}
 use borrow.Author.Tests.{eq-eqb, ne-eqb, eqb-true, eqb-false, lt-ltb, le-ltb, lt-leb, le-leb, leb-false}
-use lib.Dec.{leb, ltb}
-use lib.ListN.{length}
+use lib.Dec.{eqb, leb, ltb}
+use lib.ListN.{length, getD, take, drop}
 use Rattle.relay.specs.Choice.{pick}
 use Rattle.relay.specs.Given.{givenBy}
 use Rattle.relay.specs.Kinds.{tableOk}
 use Rattle.relay.proofs.Given.{first, absent, once, first-given, table-wrong, not-both}
-use Rattle.relay.proofs.Truth.{facts, split, least-or-below}
+use Rattle.relay.proofs.Truth.{facts, split, least-or-below, equal-or-not}
 use Rattle.sheet.specs.Entry.{numberOf, postOf, answerOf, inFields}
-use Rattle.sheet.specs.Given.{outOfField, writeReasons}
-use Rattle.sheet.specs.Layout.{roomShort}
-use Rattle.sheet.specs.Reading.{verdictAt, verdict, verdictOf, accepted, decode, roomFor, readOf}
-use Rattle.sheet.specs.Sheet.{Sheet}
-use Rattle.sheet.specs.Writing.{allInFields, bytesFor, writeNumber}
+use Rattle.sheet.specs.Given.{outOfField, writeReasons, twoWrong, startWrong, oneFrom, outOfTrack, trackedReasons}
+use Rattle.sheet.specs.Layout.{oneTrack, roomShort}
+use Rattle.sheet.specs.Reading.{formOk, tablesOk, tableFits, verdictAt, verdict, verdictOf, accepted, decode, roomFor, readOf}
+use Rattle.sheet.specs.Sheet.{Sheet, Tracked}
+use Rattle.sheet.specs.Writing.{allInFields, allBelow, tracksFit, mayStart, allFit, bytesFor, sizeNumber, trackedNumber, writeNumber}
 use Rattle.sheet.specs.declared.Verdict.{Verdict}
 use Rattle.sheet.proofs.First.{NamedSheet, verdict-iff}
 
@@ -48,11 +48,55 @@ pub write-given : (t : Sheet) (m k : ℕ) → (writeNumber t m ≡ k) ↔ (given
 unfolding writeReasons once absent
 write-given t m k = first-given k (writeReasons t m) refl (write-first t m)
 
+-- ---- the same of a sheet of either form
+-- two tables and their circuit
+two-wrong : (ks : List ℕ) → not (tablesOk ks) ≡ twoWrong ks
+unfolding tablesOk twoWrong
+two-wrong ks =
+    rw (← table-wrong (take (length ks / 2) ks), ← table-wrong (take (length ks / 2) (drop (length ks / 2) ks)), ← not-leb (getD ks (length ks / 2 * 2) 0) 1)
+    (simp not-both)
+
+start-wrong : (form : ℕ) (ks : List ℕ) → not (formOk 2 form && tableFits form ks) ≡ startWrong form ks
+unfolding formOk tableFits startWrong
+start-wrong form ks =
+    equal-or-not form 1
+    (λ e. rw e (table-wrong ks))
+    (λ n.
+    equal-or-not form 2
+    (λ e. rw e (two-wrong ks))
+    (λ m.
+    let none : (leb 1 form && leb form 2) ≡ false =
+    least-or-below form 2
+    (λ h. let z : form ≡ 0 = omega arith in rw z refl)
+    (λ h. rw (lt-leb form 2 h) (and-false (leb 1 form))) in
+    rw (none, ne-eqb form 1 n, ne-eqb form 2 m) refl))
+
+-- the tracks
+one-from : (m : ℕ) (xs : List ℕ) → not (allBelow m xs) ≡ oneFrom m xs
+unfolding allBelow oneFrom
+one-from m [] = refl
+one-from m (x ∷ xs) = rw (← one-from m xs) (simp (not-both, not-ltb))
+
+out-of-track : (form n : ℕ) (ts : List ℕ) → not (tracksFit form n ts) ≡ outOfTrack form n ts
+unfolding tracksFit outOfTrack
+out-of-track form n ts = rw (← one-from form ts) (simp not-both)
+
+tracked-first : (t : Tracked) (m : ℕ) → trackedNumber t m ≡ first (trackedReasons t m)
+unfolding trackedNumber sizeNumber first trackedReasons
+tracked-first t m =
+    let size : bytesFor (length (t .events)) ≡ 512 + (length (t .events) + 59) / 60 * 512 = omega arith in
+    rw (← start-wrong (t .form) (t .table), ← fields (t .events), ← out-of-track (t .form) (length (t .events)) (t .tracks)) (simp (not-both, not-leb, size))
+
+-- 1, 20, 18, 21 and 0 'given exactly when'
+pub tracked-given : (t : Tracked) (m k : ℕ) → (trackedNumber t m ≡ k) ↔ (givenBy (trackedReasons t m) k ≡ true)
+unfolding trackedReasons once absent
+tracked-given t m k = first-given k (trackedReasons t m) refl (tracked-first t m)
+
 -- ---- reading into room for m kinds and n events
 -- what a verdict may be
 pub data NamedRead (s : List ℕ) (m n : ℕ) : Verdict → Type 0 where
   -- 18, 19, 20 and 24
-  unread : {v : Verdict} → (v .number ≡ 0 → ⊥) → NamedSheet s v → NamedRead s m n v
+  unread : {v : Verdict} → (v .number ≡ 0 → ⊥) → NamedSheet oneTrack s v → NamedRead s m n v
   -- 'room too short for them gives 21, last'
   short : verdictOf s .number ≡ 0 → (m < length (decode s .kinds)) ⊎ (n < length (decode s .events)) → NamedRead s m n (verdict roomShort 0)
   fits : verdictOf s .number ≡ 0 → length (decode s .kinds) ≤ m → length (decode s .events) ≤ n → NamedRead s m n (verdict 0 0)
@@ -83,11 +127,11 @@ read-named s m n =
     split (roomFor (decode s) m n)
     (λ b. let r = simp facts at b in rw (a, b) (fits z (r .0) (r .1)))
     (λ b. rw (a, b) (short z (room-short (decode s) m n b))))
-    (λ a. rw a (unread (eqb-false (verdictOf s .number) 0 a) (verdict-iff s (verdictOf s) .0 refl)))
+    (λ a. rw a (unread (eqb-false (verdictOf s .number) 0 a) (verdict-iff oneTrack s (verdictOf s) .0 refl)))
 
 names-read : (s : List ℕ) (m n : ℕ) (v : Verdict) → NamedRead s m n v → readVerdict s m n ≡ v
 unfolding readOf roomFor
-names-read s m n v (unread h b) = let e = verdict-iff s v .1 b in rw (e, ne-eqb (v .number) 0 h)
+names-read s m n v (unread h b) = let e = verdict-iff oneTrack s v .1 b in rw (e, ne-eqb (v .number) 0 h)
 names-read s m n v (short z h) = rw (eq-eqb (verdictOf s .number) 0 z, short-room (decode s) m n h)
 names-read s m n v (fits z h k) = rw (eq-eqb (verdictOf s .number) 0 z, le-leb (length (decode s .kinds)) m h, le-leb (length (decode s .events)) n k)
 

@@ -8,7 +8,7 @@ use native.Mathlib.Omega.{arith}
 use lib.ListN.{length}
 use Rattle.relay.proofs.Truth.{facts}
 use Rattle.sheet.specs.Layout.{blockBytes, mostBlocks, lengthWrong}
-use Rattle.sheet.specs.Reading.{lengthOk, blocksIn, verdict, verdictOf, firstBad}
+use Rattle.sheet.specs.Reading.{lengthOk, blocksIn, verdict, verdictUpTo, firstBad}
 
 -- 'A sheet is 1 to 64 blocks of 512 bytes'
 pub record Whole (n : ℕ) : Type 0 where
@@ -26,11 +26,11 @@ whole n e =
     record { some = omega arith; most = omega arith; long = omega arith }
 
 -- reading by the length alone
-module _ (s : List ℕ) where
-  pub wrong-length : lengthOk (length s) ≡ false → verdictOf s ≡ verdict lengthWrong 0
-  unfolding verdictOf
+module _ (most : ℕ) (s : List ℕ) where
+  pub wrong-length : lengthOk (length s) ≡ false → verdictUpTo most s ≡ verdict lengthWrong 0
+  unfolding verdictUpTo
   wrong-length e = rw e
 
-  pub right-length : lengthOk (length s) ≡ true → verdictOf s ≡ firstBad s (blocksIn (length s)) 0 (blocksIn (length s))
-  unfolding verdictOf
+  pub right-length : lengthOk (length s) ≡ true → verdictUpTo most s ≡ firstBad most s (blocksIn (length s)) 0 (blocksIn (length s))
+  unfolding verdictUpTo
   right-length e = rw e

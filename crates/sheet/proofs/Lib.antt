@@ -1,9 +1,11 @@
 pub mod Accepts
 pub mod Alone
+pub mod Along
 pub mod AnyRoom
 pub mod BlockWords
 pub mod Bytes
 pub mod Calls
+pub mod CallsTracks
 pub mod Contents
 pub mod Damage
 pub mod Fields
@@ -18,6 +20,7 @@ pub mod Paper
 pub mod Places
 pub mod Puts
 pub mod Rooms
+pub mod RoomsTracks
 pub mod Stores
 pub mod Sums
 pub mod Table

@@ -1,75 +1,93 @@
 -- An event and its event word: what is packed comes back, and what is unpacked packs to the same word. The fields stand side by side, so each is a quotient's remainder.
 -- Assumes nothing.
 use mathlib.Core.Path.{_≡_, sym, ap}
-use Prim.Native.Nat.{ℕ, _/_, _%_, _<_}
+use Prim.Native.Nat.{ℕ, _+_, _*_, _/_, _%_, _≤_, _<_}
 use mathlib.Core.Bool.{true, false}
 use mathlib.Core.List.{List, [], _∷_}
 use borrow.Author.Tests.{lt-ltb}
 use lib.ListN.{length, getD}
 use native.Mathlib.Omega.{arith}
-use Rattle.sheet.specs.Entry.{packed, numberIn, postIn, answerIn, upperZero, valuesOf, unpacked, inFields, entryWord, entryOf, stampOf}
+use Rattle.sheet.specs.Entry.{packed, onTrack, numberIn, postIn, answerIn, trackIn, upperZero, valuesOf, unpacked, inFields, entryWord, entryOf, stampOf}
 use Rattle.sheet.specs.Layout.{upperBits}
 use Rattle.sheet.specs.declared.entry.Unpacked.{Unpacked}
 use Rattle.sheet.specs.declared.entry.Unpacked.the-variants.{Fields, Upper}
 use Rattle.relay.proofs.Truth.{split}
 use Rattle.sheet.proofs.Fields.{In}
 
-module _ (number post answer : ℕ) (hn : number < 32) (hp : post < 64) (ha : answer < 32) where
-  number-packed : numberIn (packed number post answer) ≡ number
-  unfolding packed numberIn
+module _ (number post answer track : ℕ) (hn : number < 32) (hp : post < 64) (ha : answer < 32) (ht : track < 2) where
+  number-packed : numberIn (onTrack (packed number post answer) track) ≡ number
+  unfolding packed onTrack numberIn
   number-packed = omega arith
 
-  post-packed : postIn (packed number post answer) ≡ post
-  unfolding packed postIn
+  post-packed : postIn (onTrack (packed number post answer) track) ≡ post
+  unfolding packed onTrack postIn
   post-packed = omega arith
 
-  answer-packed : answerIn (packed number post answer) ≡ answer
-  unfolding packed answerIn
+  answer-packed : answerIn (onTrack (packed number post answer) track) ≡ answer
+  unfolding packed onTrack answerIn
   answer-packed = omega arith
 
-  small : packed number post answer < 65536
-  unfolding packed
-  small = omega arith
+  track-packed : trackIn (onTrack (packed number post answer) track) ≡ track
+  unfolding packed onTrack trackIn
+  track-packed = omega arith
 
--- 'bits 16 to 31 are zero'
-pub packed-small : (e : List ℕ) → In e → entryWord e < 65536
-packed-small e f = small _ _ _ (f .number) (f .post) (f .answer)
+small : (number post answer track f : ℕ) → number < 32 → post < 64 → answer < 32 → track < f → onTrack (packed number post answer) track < f * 65536
+unfolding packed onTrack
+small number post answer track f hn hp ha ht = omega arith
+
+-- 'bits 16 to 31 are zero', or 17 to 31: of a track below f
+pub packed-small : (e : List ℕ) (track f : ℕ) → In e → track < f → onTrack (entryWord e) track < f * 65536
+packed-small e track f i h = small _ _ _ track f (i .number) (i .post) (i .answer) h
 
 -- the two answers differ in their number
-apart : {a b c : ℕ} → (0 ∷ a ∷ b ∷ c ∷ []) ≡ (upperBits ∷ []) → ⊥
+apart : {a b c d : ℕ} → (0 ∷ a ∷ b ∷ c ∷ d ∷ []) ≡ (upperBits ∷ []) → ⊥
 apart q = omega (arith, ap (λ (l : List ℕ). getD l 0 0) q)
 
--- what unpacking the word w said, by its case
-module _ (w : ℕ) (r : Unpacked) (e : valuesOf r ≡ unpacked w) where
-  pub told-upper : r ≡ Upper → upperZero w ≡ false
+-- what unpacking the word w of a sheet of f tracks said, by its case
+module _ (f w : ℕ) (r : Unpacked) (e : valuesOf r ≡ unpacked f w) where
+  pub told-upper : r ≡ Upper → upperZero f w ≡ false
   unfolding unpacked
-  told-upper u = split (upperZero w) (λ z. absurd (apart (sym (rw (u, z) at e)))) (λ z. z)
+  told-upper u = split (upperZero f w) (λ z. absurd (apart (sym (rw (u, z) at e)))) (λ z. z)
 
-  pub told-fields : (number post answer : ℕ) → r ≡ Fields number post answer → (upperZero w ≡ true) × (number ≡ numberIn w) × (post ≡ postIn w) × (answer ≡ answerIn w)
+  pub told-fields : (number post answer track : ℕ) → r ≡ Fields number post answer track
+      → (upperZero f w ≡ true) × (number ≡ numberIn w) × (post ≡ postIn w) × (answer ≡ answerIn w) × (track ≡ trackIn w)
   unfolding unpacked
-  told-fields number post answer u =
-      split (upperZero w)
-      (λ z. let q : (0 ∷ number ∷ post ∷ answer ∷ []) ≡ (0 ∷ numberIn w ∷ postIn w ∷ answerIn w ∷ []) = rw (u, z) at e in
-      (z, ap (λ (l : List ℕ). getD l 1 0) q, ap (λ (l : List ℕ). getD l 2 0) q, ap (λ (l : List ℕ). getD l 3 0) q))
+  told-fields number post answer track u =
+      split (upperZero f w)
+      (λ z. let q : (0 ∷ number ∷ post ∷ answer ∷ track ∷ []) ≡ (0 ∷ numberIn w ∷ postIn w ∷ answerIn w ∷ trackIn w ∷ []) = rw (u, z) at e in
+      (z, ap (λ (l : List ℕ). getD l 1 0) q, ap (λ (l : List ℕ). getD l 2 0) q, ap (λ (l : List ℕ). getD l 3 0) q, ap (λ (l : List ℕ). getD l 4 0) q))
       (λ z. absurd (apart (rw (u, z) at e)))
 
--- an event of four numbers comes back from its word and its stamp
-pub entry-back : (e : List ℕ) → length e ≡ 4 → In e → entryOf (entryWord e) (stampOf e) ≡ e
-entry-back [] l f = absurd (omega arith)
-entry-back (a ∷ []) l f = absurd (omega arith)
-entry-back (a ∷ b ∷ []) l f = absurd (omega arith)
-entry-back (a ∷ b ∷ c ∷ []) l f = absurd (omega arith)
-entry-back (a ∷ b ∷ c ∷ d ∷ x ∷ r) l f = absurd (omega arith)
-entry-back (a ∷ b ∷ c ∷ d ∷ []) l f =
+-- an event of four numbers comes back from its word and its stamp, and so does its track
+pub entry-back : (e : List ℕ) (track : ℕ) → length e ≡ 4 → In e → track < 2 → entryOf (onTrack (entryWord e) track) (stampOf e) ≡ e
+entry-back [] k l f h = absurd (omega arith)
+entry-back (a ∷ []) k l f h = absurd (omega arith)
+entry-back (a ∷ b ∷ []) k l f h = absurd (omega arith)
+entry-back (a ∷ b ∷ c ∷ []) k l f h = absurd (omega arith)
+entry-back (a ∷ b ∷ c ∷ d ∷ x ∷ r) k l f h = absurd (omega arith)
+entry-back (a ∷ b ∷ c ∷ d ∷ []) k l f h =
     let hn = f .number in
     let hp = f .post in
     let ha = f .answer in
-    rw (number-packed a b c hn hp ha, post-packed a b c hn hp ha, answer-packed a b c hn hp ha)
+    rw (number-packed a b c k hn hp ha h, post-packed a b c k hn hp ha h, answer-packed a b c k hn hp ha h)
 
--- and a word from its event
-pub word-back : (w t : ℕ) → w < 65536 → entryWord (entryOf w t) ≡ w
-unfolding packed numberIn postIn answerIn
-word-back w t h = omega arith
+pub track-back : (e : List ℕ) (track : ℕ) → In e → track < 2 → trackIn (onTrack (entryWord e) track) ≡ track
+track-back e track f h = track-packed _ _ _ track (f .number) (f .post) (f .answer) h
+
+-- and a word from its event and its track
+pub word-back : (f w t : ℕ) → f ≤ 2 → w < f * 65536 → onTrack (entryWord (entryOf w t)) (trackIn w) ≡ w
+unfolding packed onTrack numberIn postIn answerIn trackIn
+word-back f w t k h =
+    digits w (w % 32) (w / 32) (w / 32 % 64) (w / 2048) (w / 2048 % 32) (w / 65536) (w / 65536 % 2)
+    (omega arith) (omega arith) (omega arith) (omega arith)
+  where
+    digits : (w a x b y c z d : ℕ) → w ≡ x * 32 + a → x ≡ y * 64 + b → y ≡ z * 32 + c → z ≡ d → a + b * 32 + c * 2048 + d * 65536 ≡ w
+    digits w a x b y c z d p q r s = omega arith
+
+-- a track is one of the sheet's
+pub track-small : (f w : ℕ) → w < f * 65536 → trackIn w < f
+unfolding trackIn
+track-small f w h = omega arith
 
 -- what is unpacked is in its fields
 pub unpacked-fields : (w t : ℕ) → inFields (entryOf w t) ≡ true

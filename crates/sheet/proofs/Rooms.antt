@@ -11,11 +11,11 @@ use lib.Dec.{eqb, leb}
 use lib.ListN.{length, drop}
 use Rattle.relay.proofs.Truth.{split}
 use Rattle.relay.specs.Kinds.{tableOk}
-use Rattle.sheet.specs.Layout.{mostEntries, perBlock, roomShort}
+use Rattle.sheet.specs.Layout.{mostEntries, perBlock, oneTrack, roomShort}
 use Rattle.sheet.specs.Words.{tab}
 use Rattle.sheet.specs.Check.{word}
 use Rattle.sheet.specs.Sheet.{Sheet}
-use Rattle.sheet.specs.Reading.{kindsIn, blocksIn, verdict, verdictOf, entriesIn, entryIn, decode, refused, found, roomFor, readOf, handed, Reads}
+use Rattle.sheet.specs.Reading.{formIn, kindsIn, formOk, blocksIn, verdict, verdictUpTo, verdictOf, entriesIn, entryIn, decode, refused, found, roomFor, readOf, handed, Reads}
 use Rattle.sheet.specs.Writing.{bytesFor}
 use Rattle.sheet.specs.Shape.{NoUpper}
 use Rattle.sheet.specs.declared.Verdict.{Verdict}
@@ -23,20 +23,20 @@ use Rattle.sheet.specs.declared.Found.{Found}
 use Rattle.sheet.proofs.Accepts.{accepted-good}
 use Rattle.sheet.proofs.Good.{Good}
 use Rattle.sheet.proofs.Upper.{zero-upper}
-use Rattle.relay.proofs.Truth.{split, least-or-below}
-use Rattle.sheet.proofs.Table.{table-few}
+use Rattle.relay.proofs.Truth.{facts, least-or-below}
+use Rattle.sheet.proofs.Table.{fits-few, fits-one}
 use Rattle.sheet.proofs.Tabs.{length-tab}
 
 -- ---- what a good sheet has
-module _ (s : List ℕ) (z : verdictOf s .number ≡ 0) where
+module _ (most : ℕ) (s : List ℕ) (z : verdictUpTo most s .number ≡ 0) where
   abbrev n : ℕ
   n = blocksIn (length s)
 
-  good : Good n s
-  good = accepted-good s z
+  good : Good most n s
+  good = accepted-good most s z
 
   pub posts-few : word s 0 1 ≤ 32
-  posts-few = table-few s (good .table)
+  posts-few = fits-few s (good .table)
 
   pub one-block : 512 ≤ length s
   one-block = omega (arith, good .some, good .long)
@@ -82,7 +82,7 @@ module _ (s : List ℕ) (z : verdictOf s .number ≡ 0) where
   pub no-upper : NoUpper s (entriesIn s)
   no-upper i h =
       let p = placed i h in
-      zero-upper _ (good .fields (1 + i / perBlock) (omega arith) (p .0) (i % perBlock) (p .1))
+      zero-upper _ _ (good .fields (1 + i / perBlock) (omega arith) (p .0) (i % perBlock) (p .1))
 
   -- its events fill its blocks
   blocks-by : (b : Bool) → leb n 1 ≡ b → bytesFor (entriesIn s) ≡ length s
@@ -102,8 +102,14 @@ module _ (s : List ℕ) (z : verdictOf s .number ≡ 0) where
   pub bytes-are : bytesFor (entriesIn s) ≡ length s
   bytes-are = blocks-by (leb n 1) refl
 
+-- ---- what a good sheet of one track has
+module _ (s : List ℕ) (z : verdictOf s .number ≡ 0) where
+  pub form-one : formIn s ≡ oneTrack
+  unfolding formOk
+  form-one = let f = simp facts at (accepted-good oneTrack s z .first) in omega (arith, f .0, f .1)
+
   pub table-right : tableOk (kindsIn s) ≡ true
-  table-right = good .table
+  table-right = sym (fits-one s (λ e. omega (arith, form-one))) ∙ accepted-good oneTrack s z .table
 
 -- ---- what it says
 module _ (s : List ℕ) where

@@ -7,13 +7,13 @@ use lib.ListN.{length, getD}
 use native.Mathlib.Omega.{arith}
 use Rattle.sheet.specs.Words.{putWord}
 use Rattle.sheet.specs.Check.{sum, word, seal}
-use Rattle.sheet.specs.Sheet.{Sheet, held, headWord, eventsWord, bodyWord, sheetWord}
+use Rattle.sheet.specs.Sheet.{Tracked, postsOf, held, headWord, eventsWord, bodyWord, sheetWord}
 use Rattle.sheet.specs.Puts.{puts, putBlock}
 use Rattle.sheet.proofs.Sums.{sum-round, seal-round}
 use Rattle.sheet.proofs.Puts.{puts-more, puts-agree, puts-on, word-puts}
 use Rattle.sheet.proofs.BlockWords.{head-kind, events-count, body-is, check-is, body-events}
 
-module _ (t : Sheet) (b : ℕ) (d : List ℕ) where
+module _ (t : Tracked) (b : ℕ) (d : List ℕ) where
   -- the body is stored, and then the check
   pub checked : b * 512 + 512 ≤ length d → (o : List ℕ) → o ≡ puts (bodyWord t b) (b * 512) 127 d
       → putWord o (b * 512 + 508) (seal (sum (word o b) 127) b) ≡ putBlock t b d
@@ -24,18 +24,18 @@ module _ (t : Sheet) (b : ℕ) (d : List ℕ) where
       (puts-more (sheetWord t b) (b * 512) 127 d)
 
 -- ---- block 0
-module _ (t : Sheet) (d o : List ℕ) where
-  three : putWord (putWord (putWord d 0 1) 4 (length (t .kinds))) 8 (t .stamp) ≡ puts (headWord t) 0 3 d
+module _ (t : Tracked) (d o : List ℕ) where
+  three : putWord (putWord (putWord d 0 (t .form)) 4 (postsOf (t .form) (length (t .table)))) 8 (t .stamp) ≡ puts (headWord t) 0 3 d
   unfolding puts headWord
   three = refl
 
   pub head-body :
-      o ≡ puts (λ (j : ℕ). getD (t .kinds) j 0) 12 124 (putWord (putWord (putWord d 0 1) 4 (length (t .kinds))) 8 (t .stamp))
+      o ≡ puts (λ (j : ℕ). getD (t .table) j 0) 12 124 (putWord (putWord (putWord d 0 (t .form)) 4 (postsOf (t .form) (length (t .table)))) 8 (t .stamp))
       → o ≡ puts (bodyWord t 0) 0 127 d
-  head-body p = p ∙ ap (puts (λ (j : ℕ). getD (t .kinds) j 0) 12 124) three ∙ puts-on _ (headWord t) 0 3 124 d (λ i l. sym (head-kind t i))
+  head-body p = p ∙ ap (puts (λ (j : ℕ). getD (t .table) j 0) 12 124) three ∙ puts-on _ (headWord t) 0 3 124 d (λ i l. sym (head-kind t i))
 
 -- ---- event block c
-module _ (t : Sheet) (c : ℕ) where
+module _ (t : Tracked) (c : ℕ) where
   -- an event more: its word and its stamp, or zeros past the last one
   pub pair-more : (at j w v : ℕ) (d : List ℕ) → w ≡ eventsWord t c (1 + j * 2) → v ≡ eventsWord t c (2 + j * 2)
       → putWord (putWord (puts (λ (k : ℕ). eventsWord t c (1 + k)) (at + 4) (j * 2) d) (at + 4 + j * 8) w) (at + 8 + j * 8) v

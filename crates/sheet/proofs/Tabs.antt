@@ -4,8 +4,8 @@ use mathlib.Core.Path.{_≡_, refl, sym, ap, _∙_}
 use mathlib.Core.Logic.{⊎-elim}
 use Prim.Native.Nat.{ℕ, zero, suc, _+_, _≤_, _<_}
 use mathlib.Core.List.{List, [], _∷_, _++_}
-use lib.ListN.{length, getD, set, drop, length-append, length-drop, List·getD-append}
-use lib.Seq.{drop-cons, set-at, append-snoc, getD-at, ext-getD}
+use lib.ListN.{length, getD, set, take, drop, length-append, length-drop, List·getD-append}
+use lib.Seq.{drop-cons, set-at, append-snoc, getD-at, getD-take, getD-drop, length-take-le, ext-getD}
 use native.Mathlib.Nat.{eq-or-lt-of-le, le-of-suc-le-suc}
 use native.Mathlib.Numerals.{add-one}
 use native.Mathlib.Omega.{arith}
@@ -46,3 +46,19 @@ module _ {X : Type 0} (f : ℕ → X) where
 
   pub length-front : (n : ℕ) (d : List X) → n ≤ length d → length (tab f n ++ drop n d) ≡ length d
   length-front n d h = simp (length-append, length-tab, length-drop) (omega arith)
+
+-- the first n of f's values in a table of m, and n from k on
+pub front-tab : {X : Type 0} (f : ℕ → X) → X → (m n : ℕ) → n ≤ m → tab f n ≡ take n (tab f m)
+front-tab f z m n h =
+    let long : length (take n (tab f m)) ≡ n = length-take-le n (tab f m) (rw (length-tab f m) h) in
+    tab-is f z n (take n (tab f m)) (sym long) (λ i q.
+    let s : i < n = rw long at q in
+    sym (getD-take n (tab f m) i z s ∙ getD-tab f z m i (omega arith)))
+
+pub part-tab : {X : Type 0} (f : ℕ → X) → X → (m k n : ℕ) → k + n ≤ m → tab (λ i. f (k + i)) n ≡ take n (drop k (tab f m))
+part-tab f z m k n h =
+    let long : length (take n (drop k (tab f m))) ≡ n =
+    length-take-le n (drop k (tab f m)) (rw (length-drop k (tab f m), length-tab f m) (omega arith)) in
+    tab-is (λ i. f (k + i)) z n (take n (drop k (tab f m))) (sym long) (λ i q.
+    let s : i < n = rw long at q in
+    sym (getD-take n (drop k (tab f m)) i z s ∙ getD-drop k (tab f m) i z ∙ getD-tab f z m (k + i) (omega arith)))

@@ -1,5 +1,6 @@
 -- An event as a sheet has it: its number, post, answer and stamp; and its event word.
 -- 01, 'The event sheet': 'An event word packs the event number in bits 0 to 4, post in bits 5 to 10, answer in bits 11 to 15; bits 16 to 31 are zero.'
+-- 02, item 7, of a two-track sheet: 'bit 16 of an event word is the track (0 for track 1) and 24 there speaks of bits 17 to 31'.
 -- Assumes nothing.
 use Prim.Native.Nat.{ℕ, _+_, _*_, _/_, _%_}
 use mathlib.Core.Bool.{Bool, _&&_}
@@ -41,20 +42,24 @@ postIn w = w / 32 % 64
 unfoldable pub answerIn : ℕ → ℕ
 answerIn w = w / 2048 % 32
 
--- 'bits 16 to 31 are zero'
-unfoldable pub upperZero : ℕ → Bool
-upperZero w = ltb w 65536
+unfoldable pub trackIn : ℕ → ℕ
+trackIn w = w / 65536 % 2
+
+-- 'bits 16 to 31 are zero'; of a sheet of two tracks, where bit 16 is the track, bits 17 to 31: the event word stays below 2^16 for each track
+unfoldable pub upperZero : ℕ → ℕ → Bool
+upperZero tracks w = ltb w (tracks * 65536)
 
 -- ---- unpacking. 02, item 6: 'Unpacking an event word should say when its upper sixteen bits are not zero'
--- what each case of its answer stands for: 0 with the event's number, post and answer, or 24 and no field
+-- what each case of its answer stands for: 0 with the event's number, post, answer and track, or 24 and no field
 -- 01: 'If an answer is an enum, a definition sets out this paper's number and values for each of the enum's cases.'
 abbrev pub valuesOf : Unpacked → List ℕ
-valuesOf (Fields number post answer) = 0 ∷ number ∷ post ∷ answer ∷ []
+valuesOf (Fields number post answer track) = 0 ∷ number ∷ post ∷ answer ∷ track ∷ []
 valuesOf Upper = upperBits ∷ []
 
--- what unpacking the event word w answers
-unfoldable pub unpacked : ℕ → List ℕ
-unpacked w = pick (upperZero w) (0 ∷ numberIn w ∷ postIn w ∷ answerIn w ∷ []) (upperBits ∷ [])
+-- what unpacking the event word w of a sheet of so many tracks answers
+unfoldable pub unpacked : ℕ → ℕ → List ℕ
+unpacked tracks w =
+    pick (upperZero tracks w) (0 ∷ numberIn w ∷ postIn w ∷ answerIn w ∷ trackIn w ∷ []) (upperBits ∷ [])
 
 -- ---- writing
 -- every field of an event to write is in its field; a stamp of any value is
@@ -64,6 +69,10 @@ inFields e = ltb (numberOf e) 32 && (ltb (postOf e) 64 && ltb (answerOf e) 32)
 -- the event word of an event
 abbrev pub entryWord : List ℕ → ℕ
 entryWord e = packed (numberOf e) (postOf e) (answerOf e)
+
+-- 'bit 16 of an event word is the track'
+unfoldable pub onTrack : ℕ → ℕ → ℕ
+onTrack w track = w + track * 65536
 
 -- the event of an event word and a stamp
 abbrev pub entryOf : ℕ → ℕ → List ℕ

@@ -5,7 +5,7 @@
 use Prim.Native.Nat.{ℕ, _+_, _-_, _*_, _%_, _^_}
 use mathlib.Core.List.{List, [], _∷_}
 use Rattle.sheet.specs.Entry.{entry, packed}
-use Rattle.sheet.specs.Sheet.{Sheet, encode}
+use Rattle.sheet.specs.Sheet.{Sheet, Tracked, encode, encodeTracked}
 use Rattle.sheet.specs.Words.{wordAt, putWord}
 
 abbrev pub twoBlocks : Sheet
@@ -32,3 +32,14 @@ noCount = spoiled notZero 0 0
 
 abbrev pub noCheck : List ℕ
 noCheck = putWord noCount 1020 0
+
+-- ---- a sheet of two tracks. 02, item 7: two posts, the circuit c, and one announcement on track 2 or none
+abbrev pub bothTracks : ℕ → Tracked
+bothTracks c = record { form = 2; stamp = 7; table = 0 ∷ 1 ∷ 0 ∷ 17 ∷ c ∷ []; events = []; tracks = [] }
+
+abbrev pub onTrackTwo : Tracked
+onTrackTwo = record { form = 2; stamp = 0; table = 0 ∷ 1 ∷ 0 ∷ 1 ∷ 0 ∷ []; events = entry 5 0 31 0 ∷ []; tracks = 1 ∷ [] }
+
+-- its event word with bit 17 up too
+abbrev pub bitSeventeen : List ℕ
+bitSeventeen = spoiled (encodeTracked onTrackTwo) 1 (packed 5 0 31 + 2 ^ 16 + 2 ^ 17)

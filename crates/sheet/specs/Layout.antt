@@ -29,6 +29,17 @@ perBlock = 60
 abbrev pub mostEntries : ℕ
 mostEntries = 3780
 
+-- 02, item 7: word 0 of block 0 is how many tracks the sheet is of: 'A two-track sheet has 2 in word 0'
+abbrev pub oneTrack : ℕ
+oneTrack = 1
+
+abbrev pub twoTracks : ℕ
+twoTracks = 2
+
+-- 'the circuit kind (0 polarised, 1 vibrated)'
+abbrev pub lastCircuit : ℕ
+lastCircuit = 1
+
 -- 'Answer 31 means not yet answered.'
 abbrev pub unanswered : ℕ
 unanswered = 31

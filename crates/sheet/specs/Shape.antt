@@ -7,23 +7,28 @@ use mathlib.Core.List.{List}
 use mathlib.Core.Path.{_≡_}
 use lib.Dec.{eqb, leb}
 use Rattle.relay.specs.Choice.{pick}
-use Rattle.relay.specs.Kinds.{tableOk}
 use Rattle.sheet.specs.Layout.{perBlock}
+use Rattle.sheet.specs.Sheet.{tableWords}
 use Rattle.sheet.specs.Check.{word}
 use Rattle.sheet.specs.Entry.{upperZero}
-use Rattle.sheet.specs.Reading.{kindsIn, eventsFit}
+use Rattle.sheet.specs.Reading.{formIn, tableIn, tableFits, formOk, eventsFit}
 use Rattle.sheet.specs.declared.blocks.Shape.{Shape}
 
 abbrev pub shape : Bool → ℕ → ℕ → Shape
 shape ok events used = record { ok = ok; events = events; used = used }
 
+-- block 0 of a sheet that may be of so many tracks
+unfoldable pub headShape : ℕ → List ℕ → Shape
+headShape most s =
+    pick (formOk most (formIn s) && tableFits (formIn s) (tableIn s))
+    (shape true 0 (3 + tableWords (formIn s) (word s 0 1))) (shape false 0 0)
+
 -- block b of n
-unfoldable pub shapeOf : List ℕ → ℕ → ℕ → Shape
-shapeOf s n b =
-    pick (eqb b 0)
-    (pick (eqb (word s 0 0) 1 && tableOk (kindsIn s)) (shape true 0 (3 + word s 0 1)) (shape false 0 0))
+unfoldable pub shapeOf : ℕ → List ℕ → ℕ → ℕ → Shape
+shapeOf most s n b =
+    pick (eqb b 0) (headShape most s)
     (pick (eventsFit (word s b 0) (eqb (b + 1) n)) (shape true (word s b 0) (1 + word s b 0 * 2)) (shape false 0 0))
 
 -- the words of the first m events have no upper bits
 abbrev pub NoUpper : List ℕ → ℕ → Type 0
-NoUpper s m = (i : ℕ) → i < m → upperZero (word s (1 + i / perBlock) (1 + i % perBlock * 2)) ≡ true
+NoUpper s m = (i : ℕ) → i < m → upperZero (formIn s) (word s (1 + i / perBlock) (1 + i % perBlock * 2)) ≡ true

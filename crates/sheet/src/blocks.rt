@@ -1,10 +1,12 @@
 // The blocks of a sheet, up to the first bad one.
 ghost use mathlib.Core.Path.{_≡_};
+ghost use mathlib.Core.Bool.{false};
 ghost use Prim.Native.Nat.{_+_, _*_, _≤_, _<_};
 ghost use lib.ListN.{length};
 ghost use Rattle.relay.specs.Kinds.{tableOk};
-ghost use Rattle.sheet.specs.Reading.{lengthOk, kindsIn, eventsFit, verdictAt, firstBad};
-ghost use Rattle.sheet.specs.Shape.{shapeOf};
+ghost use Rattle.sheet.specs.Check.{word};
+ghost use Rattle.sheet.specs.Reading.{lengthOk, kindsAt, tableIn, tableFits, formOk, eventsFit, verdictAt, firstBad, verdictUpTo};
+ghost use Rattle.sheet.specs.Shape.{shape, headShape, shapeOf};
 ghost use Rattle.sheet.specs.Layout.{blockBytes, mostBlocks};
 use crate::Verdict;
 use crate::entry;
@@ -13,8 +15,12 @@ use crate::layout::BLOCK_BYTES;
 use crate::layout::CHECK_AT;
 use crate::layout::CHECK_WRONG;
 use crate::layout::CONTENTS_WRONG;
+use crate::layout::LAST_CIRCUIT;
+use crate::layout::LENGTH_WRONG;
 use crate::layout::MOST_BYTES;
+use crate::layout::ONE_TRACK;
 use crate::layout::PER_BLOCK;
+use crate::layout::TWO_TRACKS;
 use crate::layout::UPPER_BITS;
 use crate::words;
 
@@ -31,10 +37,17 @@ pub fn length_ok(n: usize) -> bool
     (n % BLOCK_BYTES == 0) & ((BLOCK_BYTES <= n) & (n <= MOST_BYTES))
 }
 
-// Whether starting would accept N and the kinds of block 0.
-pub fn table_in(s: &[u8]) -> bool
-    requires { ⌜ blockBytes ≤ length (now s) ⌝ }
-    ensures { λ r. ⌜ r ≡ tableOk (kindsIn (now (s .entry))) ⌝ }
+// Whether a sheet that may be of `most` tracks may be of so many.
+pub fn form_ok(most: u32, tracks: u32) -> bool
+    ensures { λ r. ⌜ r ≡ formOk most tracks ⌝ }
+{
+    (ONE_TRACK <= tracks) & (tracks <= most)
+}
+
+// Whether starting would accept N and the kinds that stand from word `at` of block 0 on.
+pub fn kinds_at(s: &[u8], at: usize) -> bool
+    requires { ⌜ (at ≤ 35) × (blockBytes ≤ length (now s)) ⌝ }
+    ensures { λ r. ⌜ r ≡ tableOk (kindsAt (now (s .entry)) at) ⌝ }
 {
     let n = words::get_word(s, 4) as usize;
     if !line::kinds::count_fits(n) {
@@ -42,7 +55,7 @@ pub fn table_in(s: &[u8]) -> bool
     }
     let mut i: usize = 0;
     while i < n {
-        if !line::kinds::kind_fits(n, i, words::get_word(s, (3 + i) * 4)) {
+        if !line::kinds::kind_fits(n, i, words::get_word(s, (at + i) * 4)) {
             return false;
         }
         i += 1;
@@ -50,39 +63,65 @@ pub fn table_in(s: &[u8]) -> bool
     true
 }
 
-// The shape of block `b` of `n`.
-pub fn shape_of(s: &[u8], n: u32, b: u32) -> Shape
-    requires { ⌜ (b < n) × (n ≤ mostBlocks) × (n * blockBytes ≤ length (now s)) ⌝ }
-    ensures { λ r. ⌜ r ≡ shapeOf (now (s .entry)) n b ⌝ }
+// Whether starting would accept the table of block 0, of a sheet of so many tracks: of two tracks both tables and the circuit.
+pub fn table_in(s: &[u8], tracks: u32) -> bool
+    requires { ⌜ (blockBytes ≤ length (now s)) × (tracks ≡ word (now s) 0 0) ⌝ }
+    ensures { λ r. ⌜ r ≡ tableFits (word (now (s .entry)) 0 0) (tableIn (now (s .entry))) ⌝ }
 {
-    let m = words::get_word(s, b as usize * BLOCK_BYTES) as usize;
-    if b == 0 {
-        if m != 1 {
-            return Shape {
-                ok: false,
-                events: 0,
-                used: 0,
-            };
-        }
-        if !table_in(s) {
-            return Shape {
-                ok: false,
-                events: 0,
-                used: 0,
-            };
-        }
-        return Shape {
-            ok: true,
-            events: 0,
-            used: 3 + words::get_word(s, 4) as usize,
-        };
+    if !kinds_at(s, 3) {
+        return false;
     }
+    if tracks != TWO_TRACKS {
+        return true;
+    }
+    let n = words::get_word(s, 4) as usize;
+    if !kinds_at(s, 3 + n) {
+        return false;
+    }
+    words::get_word(s, (3 + n * 2) * 4) <= LAST_CIRCUIT
+}
+
+// The shape of block 0 of a sheet that may be of `most` tracks.
+fn head_shape(s: &[u8], most: u32) -> Shape
+    requires { ⌜ blockBytes ≤ length (now s) ⌝ }
+    ensures { λ r. ⌜ r ≡ headShape most (now (s .entry)) ⌝ }
+{
+    let tracks = words::get_word(s, 0);
+    if !form_ok(most, tracks) {
+        return wrong_shape();
+    }
+    if !table_in(s, tracks) {
+        return wrong_shape();
+    }
+    Shape {
+        ok: true,
+        events: 0,
+        used: 3 + crate::table_words(tracks, words::get_word(s, 4)),
+    }
+}
+
+// The shape of a block that departs from the layout.
+fn wrong_shape() -> Shape
+    ensures { λ r. ⌜ r ≡ shape false 0 0 ⌝ }
+{
+    Shape {
+        ok: false,
+        events: 0,
+        used: 0,
+    }
+}
+
+// The shape of block `b` of `n`, of a sheet that may be of `most` tracks.
+pub fn shape_of(s: &[u8], n: u32, b: u32, most: u32) -> Shape
+    requires { ⌜ (b < n) × (n ≤ mostBlocks) × (n * blockBytes ≤ length (now s)) ⌝ }
+    ensures { λ r. ⌜ r ≡ shapeOf most (now (s .entry)) n b ⌝ }
+{
+    if b == 0 {
+        return head_shape(s, most);
+    }
+    let m = words::get_word(s, b as usize * BLOCK_BYTES) as usize;
     if !events_fit(m, b + 1 == n) {
-        return Shape {
-            ok: false,
-            events: 0,
-            used: 0,
-        };
+        return wrong_shape();
     }
     Shape {
         ok: true,
@@ -109,10 +148,21 @@ pub fn verdict(number: u32, block: u32, position: u32) -> Verdict
     }
 }
 
-// The first bad block of the `n` blocks of `s`, with 19, 20 or 24; check before contents. 0 and 0 where all are good.
-pub fn first_bad(s: &[u8], n: u32) -> Verdict
+// The refusal of a sheet that may be of `most` tracks: its length first, then its blocks; or zeros.
+pub fn test_up_to(s: &[u8], most: u32) -> Verdict
+    ensures { λ r. ⌜ r ≡ verdictUpTo most (now (s .entry)) ⌝ }
+{
+    let n = s.len();
+    if !length_ok(n) {
+        return verdict(LENGTH_WRONG, 0, 0);
+    }
+    first_bad(s, (n / BLOCK_BYTES) as u32, most)
+}
+
+// The first bad block of the `n` blocks of a sheet that may be of `most` tracks, with 19, 20 or 24; check before contents. 0 and 0 where all are good.
+pub fn first_bad(s: &[u8], n: u32, most: u32) -> Verdict
     requires { ⌜ (n ≤ mostBlocks) × (n * blockBytes ≤ length (now s)) ⌝ }
-    ensures { λ r. ⌜ r ≡ firstBad (now (s .entry)) n 0 n ⌝ }
+    ensures { λ r. ⌜ r ≡ firstBad most (now (s .entry)) n 0 n ⌝ }
 {
     let mut b: u32 = 0;
     'blocks: loop {
@@ -123,15 +173,16 @@ pub fn first_bad(s: &[u8], n: u32) -> Verdict
         if !words::checks_as(s, b as usize, b) {
             break 'blocks verdict(CHECK_WRONG, b, 0);
         }
-        let shape = shape_of(s, n, b);
+        let shape = shape_of(s, n, b, most);
         if !shape.ok {
             break 'blocks verdict(CONTENTS_WRONG, b, 0);
         }
         let events = shape.events;
+        let tracks = words::get_word(s, 0);
         let mut j: usize = 0;
         while j < events {
             let w = words::get_word(s, at + (1 + j * 2) * 4);
-            let Unpacked::Fields(_, _, _) = entry::unpack(w) else {
+            let Unpacked::Fields(_, _, _, _) = entry::unpack(w, tracks) else {
                 break 'blocks verdict(UPPER_BITS, b, j as u32);
             };
             j += 1;

@@ -1,19 +1,19 @@
-// The event word: number, post and answer, packed and unpacked by shifts and masks. Its fields are handed out by `unpack` alone.
+// The event word: number, post, answer and track, packed and unpacked by shifts and masks. Its fields are handed out by `unpack` alone.
 ghost use mathlib.Core.Path.{_≡_};
-ghost use Prim.Native.Nat.{_<_};
-ghost use Rattle.sheet.specs.Entry.{packed, numberIn, postIn, answerIn, upperZero, valuesOf, unpacked, inFields};
+ghost use Prim.Native.Nat.{_<_, _≤_};
+ghost use Rattle.sheet.specs.Entry.{packed, onTrack, numberIn, postIn, answerIn, trackIn, upperZero, valuesOf, unpacked, inFields};
 
-// What unpacking an event word says: its number, post and answer, or that its upper bits are not zero.
+// What unpacking an event word says: its number, post, answer and track, or that its upper bits are not zero.
 pub enum Unpacked {
-    Fields(u32, u32, u32),
+    Fields(u32, u32, u32, u32),
     Upper,
 }
 
-pub fn pack(number: u32, post: u32, answer: u32) -> u32
-    requires { ⌜ (number < 32) × ((post < 64) × (answer < 32)) ⌝ }
-    ensures { λ r. ⌜ r ≡ packed number post answer ⌝ }
+pub fn pack(number: u32, post: u32, answer: u32, track: u32) -> u32
+    requires { ⌜ (number < 32) × ((post < 64) × ((answer < 32) × (track < 2))) ⌝ }
+    ensures { λ r. ⌜ r ≡ onTrack (packed number post answer) track ⌝ }
 {
-    number | post << 5 | answer << 11
+    number | post << 5 | answer << 11 | track << 16
 }
 
 fn number_in(w: u32) -> u32
@@ -34,20 +34,26 @@ fn answer_in(w: u32) -> u32
     w >> 11 & 31
 }
 
-// Bits 16 to 31 are zero.
-fn upper_zero(w: u32) -> bool
-    ensures { λ r. ⌜ r ≡ upperZero w ⌝ }
+fn track_in(w: u32) -> u32
+    ensures { λ r. ⌜ r ≡ trackIn w ⌝ }
 {
-    if w >> 16 != 0 { false } else { true }
+    w >> 16 & 1
 }
 
-pub fn unpack(w: u32) -> Unpacked
-    ensures { λ r. ⌜ valuesOf r ≡ unpacked w ⌝ }
+// Bits 16 to 31 are zero; of a sheet of two tracks bits 17 to 31.
+fn upper_zero(w: u32, tracks: u32) -> bool
+    ensures { λ r. ⌜ r ≡ upperZero tracks w ⌝ }
 {
-    if !upper_zero(w) {
+    w >> 16 < tracks
+}
+
+pub fn unpack(w: u32, tracks: u32) -> Unpacked
+    ensures { λ r. ⌜ valuesOf r ≡ unpacked tracks w ⌝ }
+{
+    if !upper_zero(w, tracks) {
         return Unpacked::Upper;
     }
-    Unpacked::Fields(number_in(w), post_in(w), answer_in(w))
+    Unpacked::Fields(number_in(w), post_in(w), answer_in(w), track_in(w))
 }
 
 // Number, post and answer are in their fields.

@@ -1,11 +1,13 @@
 // A good sheet's kinds and events, handed out into lent room.
 ghost use mathlib.Core.Path.{_≡_};
 ghost use Prim.Native.Nat.{_+_, _-_, _*_, _/_, _≤_, _<_, ℕ};
+ghost use mathlib.Core.Bool.{_&&_};
 ghost use mathlib.Core.List.{_++_};
+ghost use lib.Dec.{leb};
 ghost use lib.ListN.{length, drop};
 ghost use Rattle.sheet.specs.Words.{tab};
 ghost use Rattle.sheet.specs.Check.{word};
-ghost use Rattle.sheet.specs.Reading.{entriesIn, entryIn};
+ghost use Rattle.sheet.specs.Reading.{entriesIn, entryIn, trackOn};
 ghost use Rattle.sheet.specs.Shape.{NoUpper};
 ghost use Rattle.sheet.specs.Layout.{blockBytes, mostBlocks, perBlock, mostEntries};
 use crate::entry;
@@ -27,9 +29,16 @@ pub fn entries_in(s: &[u8]) -> usize
     (n - 2) * PER_BLOCK + words::get_word(s, last * BLOCK_BYTES) as usize
 }
 
-// The first `n` kinds, to the front of `room`.
-pub fn kinds(s: &[u8], n: usize, room: &mut [u32])
-    requires { ⌜ (n ≤ 32) × (blockBytes ≤ length (now s)) × (n ≤ length (now room)) ⌝ }
+// Whether a table of `k` words and `m` events with their tracks fit into rooms for `a` words, `b` events and `c` tracks.
+pub fn fits(k: usize, m: usize, a: usize, b: usize, c: usize) -> bool
+    ensures { λ r. ⌜ r ≡ (leb k a && (leb m b && leb m c)) ⌝ }
+{
+    (k <= a) & ((m <= b) & (m <= c))
+}
+
+// The first `n` words of the table, to the front of `room`.
+pub fn table(s: &[u8], n: usize, room: &mut [u32])
+    requires { ⌜ (n ≤ 65) × (blockBytes ≤ length (now s)) × (n ≤ length (now room)) ⌝ }
     ensures { λ _. ⌜ now (room .exit) ≡ tab (λ i. word (now (s .entry)) 0 (3 + i)) n ++ drop n (now (room .entry)) ⌝ }
 {
     let mut i: usize = 0;
@@ -45,13 +54,35 @@ pub fn events(s: &[u8], m: usize, room: &mut [[u32; 4]])
     requires { ⌜ NoUpper (now s) m ⌝ }
     ensures { λ _. ⌜ now (room .exit) ≡ tab (entryIn (now (s .entry))) m ++ drop m (now (room .entry)) ⌝ }
 {
+    let tracks = words::get_word(s, 0);
     let mut i: usize = 0;
     while i < m {
         let at = (1 + i / PER_BLOCK) * BLOCK_BYTES + (1 + i % PER_BLOCK * 2) * 4;
-        let Unpacked::Fields(number, post, answer) = entry::unpack(words::get_word(s, at)) else {
+        let Unpacked::Fields(number, post, answer, _) = entry::unpack(
+            words::get_word(s, at),
+            tracks,
+        ) else {
             return;
         };
         room[i] = [number, post, answer, words::get_word(s, at + 4)];
+        i += 1;
+    }
+}
+
+// The tracks of the first `m` events, whose words have no upper bits, to the front of `room`.
+pub fn tracks(s: &[u8], m: usize, room: &mut [u32])
+    requires { ⌜ (m ≤ mostEntries) × ((m + (perBlock - 1)) / perBlock * blockBytes + blockBytes ≤ length (now s)) × (m ≤ length (now room)) ⌝ }
+    requires { ⌜ NoUpper (now s) m ⌝ }
+    ensures { λ _. ⌜ now (room .exit) ≡ tab (trackOn (now (s .entry))) m ++ drop m (now (room .entry)) ⌝ }
+{
+    let tracks = words::get_word(s, 0);
+    let mut i: usize = 0;
+    while i < m {
+        let at = (1 + i / PER_BLOCK) * BLOCK_BYTES + (1 + i % PER_BLOCK * 2) * 4;
+        let Unpacked::Fields(_, _, _, track) = entry::unpack(words::get_word(s, at), tracks) else {
+            return;
+        };
+        room[i] = track;
         i += 1;
     }
 }

@@ -22,6 +22,17 @@ pub const PER_BLOCK: usize = 60;
 
 pub const MOST_ENTRIES: usize = 3780;
 
+// Word 0 of block 0: how many tracks a sheet is of. 02, item 7.
+pub const ONE_TRACK: u32 = 1;
+
+pub const TWO_TRACKS: u32 = 2;
+
+// The longest table of two tracks: 32 kinds of each, and the circuit.
+pub const MOST_TABLE: usize = 65;
+
+// The circuit kinds are 0, polarised, and 1, vibrated.
+pub const LAST_CIRCUIT: u32 = 1;
+
 // The answer of an event that is not yet answered.
 pub const UNANSWERED: u32 = 31;
 

@@ -1,9 +1,10 @@
 // The event sheet in lent bytes: tested, read into lent room, and written.
 ghost use mathlib.Core.Path.{_≡_};
-ghost use lib.ListN.{length};
-ghost use Rattle.sheet.specs.Writing.{Writes};
+ghost use Rattle.sheet.specs.Sheet.{tableWords};
+ghost use Rattle.sheet.specs.Layout.{twoTracks};
+ghost use Rattle.sheet.specs.Writing.{Writes, WritesTracked};
 ghost use Rattle.sheet.specs.Check.{checksAlone};
-ghost use Rattle.sheet.specs.Reading.{verdictOf, refused, verdictAt, Reads};
+ghost use Rattle.sheet.specs.Reading.{verdictOf, verdictUpTo, refused, refusedTracks, verdictAt, Reads, ReadsTracks};
 
 mod blocks;
 mod entry;
@@ -14,10 +15,9 @@ mod words;
 
 use layout::BLOCK_BYTES;
 use layout::CONTENTS_WRONG;
-use layout::LENGTH_WRONG;
-use layout::MOST_ENTRIES;
-use layout::PER_BLOCK;
+use layout::ONE_TRACK;
 use layout::ROOM_SHORT;
+use layout::TWO_TRACKS;
 
 // A refusal of reading, its block, and for 24 the event's position in that block; or zeros.
 #[repr(C)]
@@ -38,6 +38,18 @@ pub struct Found {
     pub events: u32,
 }
 
+// What reading a sheet of either form returns: number, block and position, and of a good sheet how many tracks it is of, how many posts each has, its start stamp and how many events.
+#[repr(C)]
+pub struct FoundTracks {
+    pub number: u32,
+    pub block: u32,
+    pub position: u32,
+    pub tracks: u32,
+    pub posts: u32,
+    pub stamp: u32,
+    pub events: u32,
+}
+
 // Whether one block by itself checks, as block `number` of a sheet. Any length but that of a block does not.
 pub fn check(s: &[u8], number: u32) -> bool
     ensures { λ r. ⌜ r ≡ checksAlone (now (s .entry)) number ⌝ }
@@ -52,11 +64,14 @@ pub fn check(s: &[u8], number: u32) -> bool
 pub fn test(s: &[u8]) -> Verdict
     ensures { λ r. ⌜ r ≡ verdictOf (now (s .entry)) ⌝ }
 {
-    let n = s.len();
-    if !blocks::length_ok(n) {
-        return blocks::verdict(LENGTH_WRONG, 0, 0);
-    }
-    blocks::first_bad(s, (n / BLOCK_BYTES) as u32)
+    blocks::test_up_to(s, ONE_TRACK)
+}
+
+// Tests a sheet of one track or of two.
+pub fn test_tracks(s: &[u8]) -> Verdict
+    ensures { λ r. ⌜ r ≡ verdictUpTo twoTracks (now (s .entry)) ⌝ }
+{
+    blocks::test_up_to(s, TWO_TRACKS)
 }
 
 // What a refusal of reading returns.
@@ -90,7 +105,7 @@ pub fn read(s: &[u8], kinds: &mut [u32], events: &mut [[u32; 4]]) -> Found
     if events.len() < m {
         return refuse(ROOM_SHORT, 0, 0);
     }
-    give::kinds(s, n, kinds);
+    give::table(s, n, kinds);
     give::events(s, m, events);
     Found {
         number: 0,
@@ -100,6 +115,64 @@ pub fn read(s: &[u8], kinds: &mut [u32], events: &mut [[u32; 4]]) -> Found
         stamp: words::get_word(s, 8),
         events: m as u32,
     }
+}
+
+// What a refusal of reading a sheet of either form returns.
+pub fn refuse_tracks(number: u32, block: u32, position: u32) -> FoundTracks
+    ensures { λ r. ⌜ r ≡ refusedTracks (verdictAt number block position) ⌝ }
+{
+    FoundTracks {
+        number: number,
+        block: block,
+        position: position,
+        tracks: 0,
+        posts: 0,
+        stamp: 0,
+        events: 0,
+    }
+}
+
+// Reads a sheet of one track or of two: its table to the front of `table` (the kinds; of two tracks those of track 1, those of track 2 and the circuit), its events as `read` does, and the track of each to the front of `on`. A refusal leaves all three as they were.
+pub fn read_tracks(
+    s: &[u8],
+    table: &mut [u32],
+    events: &mut [[u32; 4]],
+    on: &mut [u32],
+) -> FoundTracks
+    ensures { λ r. ⌜ ReadsTracks (now (s .entry)) r (now (table .entry)) (now (table .exit)) (now (events .entry)) (now (events .exit)) (now (on .entry)) (now (on .exit)) ⌝ }
+{
+    let v = test_tracks(s);
+    let number = v.number;
+    if number != 0 {
+        return refuse_tracks(number, v.block, v.position);
+    }
+    let tracks = words::get_word(s, 0);
+    let n = words::get_word(s, 4);
+    let k = table_words(tracks, n);
+    let m = give::entries_in(s);
+    if !give::fits(k, m, table.len(), events.len(), on.len()) {
+        return refuse_tracks(ROOM_SHORT, 0, 0);
+    }
+    give::table(s, k, table);
+    give::events(s, m, events);
+    give::tracks(s, m, on);
+    FoundTracks {
+        number: 0,
+        block: 0,
+        position: 0,
+        tracks: tracks,
+        posts: n,
+        stamp: words::get_word(s, 8),
+        events: m as u32,
+    }
+}
+
+// How many words the table of so many posts has, in a sheet of so many tracks.
+pub fn table_words(tracks: u32, posts: u32) -> usize
+    ensures { λ r. ⌜ r ≡ tableWords tracks posts ⌝ }
+{
+    let n = posts as usize;
+    if tracks == TWO_TRACKS { n * 2 + 1 } else { n }
 }
 
 // Writes a sheet to the front of `out`: 0, or the number of the refusal, and then `out` is as it was.
@@ -112,19 +185,29 @@ pub fn write(kinds: &[u32], stamp: u32, events: &[[u32; 4]], out: &mut [u8]) -> 
     if !put::all_in_fields(events) {
         return CONTENTS_WRONG;
     }
-    let m = events.len();
-    if m > MOST_ENTRIES {
-        return LENGTH_WRONG;
+    let none = [0u32; 1];
+    put::whole(ONE_TRACK, kinds, stamp, events, &none[..0], out)
+}
+
+// Writes a sheet of one track or of two to the front of `out`, by how many tracks it is of, its table as `read_tracks` hands it out, and the track of each event: 0, or the number of the refusal, and then `out` is as it was.
+pub fn write_tracks(
+    tracks: u32,
+    table: &[u32],
+    stamp: u32,
+    events: &[[u32; 4]],
+    on: &[u32],
+    out: &mut [u8],
+) -> u32
+    ensures { λ r. ⌜ WritesTracked (record { form = tracks; stamp = stamp; table = now (table .entry); events = now (events .entry); tracks = now (on .entry) }) r (now (out .entry)) (now (out .exit)) ⌝ }
+{
+    if !put::may_start(tracks, table) {
+        return relay::NOT_VALID;
     }
-    let n = (m + (PER_BLOCK - 1)) / PER_BLOCK;
-    if out.len() < BLOCK_BYTES + n * BLOCK_BYTES {
-        return ROOM_SHORT;
+    if !put::all_in_fields(events) {
+        return CONTENTS_WRONG;
     }
-    put::head(kinds, stamp, out);
-    let mut c: usize = 0;
-    while c < n {
-        put::events(events, c, out);
-        c += 1;
+    if !put::tracks_fit(tracks, events.len(), on) {
+        return CONTENTS_WRONG;
     }
-    0
+    put::whole(tracks, table, stamp, events, on, out)
 }

@@ -1,4 +1,3 @@
-pub mod Words
 pub mod Right
 pub mod Watched
 pub mod Asked

@@ -21,7 +21,7 @@ use Rattle.relay.specs.Line.{After}
 use Rattle.relay.specs.Posts.{at}
 use Rattle.sheet.proofs.First.{NamedSheet, verdict-iff}
 use Rattle.sheet.specs.Entry.{numberOf, postOf, answerOf, stampOf}
-use Rattle.sheet.specs.Layout.{unanswered}
+use Rattle.sheet.specs.Layout.{unanswered, oneTrack}
 use Rattle.sheet.specs.Reading.{accepted, verdictOf, decode}
 use Rattle.sheet.specs.Sheet.{Sheet}
 use Rattle.sheet.specs.declared.Verdict.{Verdict}
@@ -59,7 +59,7 @@ MadeIt s k j = Made (decode s) (answerOf (eventAt (decode s) k)) (postOf (eventA
 
 pub data NamedSince (s : List ℕ) (k : ℕ) : Since → Type 0 where
   -- 'after those of reading'
-  unread : {v : Verdict} → (v .number ≡ 0 → ⊥) → NamedSheet s v → NamedSince s k (since (v .number) (v .block) (v .position))
+  unread : {v : Verdict} → (v .number ≡ 0 → ⊥) → NamedSheet oneTrack s v → NamedSince s k (since (v .number) (v .block) (v .position))
   -- 29 'when the sheet's answers aren't the ones that working its events gives'
   not-worked : (j : ℕ) → verdictOf s .number ≡ 0 → 1 ≤ j → j ≤ length (decode s .events) → (RightAt (decode s) j → ⊥)
       → NamedSince s k (since 29 0 0)
@@ -183,11 +183,11 @@ named s k =
     (λ l. rw (← since-not-asked s k z (past-last (decode s) k l)) (no-event z (inr l))))
     (λ h. rw (← since-not-asked s k z (below-first (decode s) k h)) (no-event z (inl (omega arith)))))
     (λ c.
-    rw (← since-unread s k c) (unread (eqb-false (verdictOf s .number) 0 c) (verdict-iff s (verdictOf s) .0 refl)))
+    rw (← since-unread s k c) (unread (eqb-false (verdictOf s .number) 0 c) (verdict-iff oneTrack s (verdictOf s) .0 refl)))
 
 names : (s : List ℕ) (k : ℕ) (v : Since) → NamedSince s k v → sinceOf s k ≡ v
 names s k v (unread {v = u} h b) =
-    let e = verdict-iff s u .1 b in
+    let e = verdict-iff oneTrack s u .1 b in
     sym (since-unread s k (rw e (ne-eqb (u .number) 0 h))) ∙ rw e
 names s k v (not-worked j z h l w) =
     sym (since-not-worked s k z (wrong-at (begun (decode s .kinds) (decode s .stamp)) (decode s .events) (j - 1) (omega arith) w))

@@ -64,16 +64,7 @@ fn so(answer: u32, word: u32) -> bool
 fn word_at(row: Row, place: u32) -> u32
     ensures { λ r. ⌜ r ≡ at (lineOf row) place .word ⌝ }
 {
-    let posts = row.posts;
-    let n = row.n;
-    let i = place as usize;
-    if 32 < n {
-        return 0;
-    }
-    if i < n {
-        return posts[i].word;
-    }
-    0
+    row::word_at(row, place as usize)
 }
 
 // The event at `here` where it made it so, else the one before.

@@ -3,6 +3,7 @@ use mathlib.Core.Path.{sym}
 use native.Mathlib.Omega.{arith}
 use borrow.Author.Needs.{needs}
 use lib.Seq.{length-take-le}
+use Rattle.sheet.specs.Layout.{oneTrack}
 use Rattle.sheet.proofs.Rooms.{not-long}
 use Rattle.listing.proofs.Sheets.{listing-worked}
 use Rattle.desk.proofs.work_sheet.Statement.{statement}
@@ -45,7 +46,7 @@ array-share-prefix-out : tie.Need-array-share-prefix-out
 array-share-prefix-out c =
     let w = c .before .before .before in
     let d = listing-worked _ _ (sym (slice-aggregate-work-2 (w .before))) (w .work .result) (w .work .last .1 .0) (w .work .ensures) (c .if1 .left) in
-    omega (arith, not-long _ (d .accepted), slice-aggregate-work (w .before .before), slice-aggregate-work-2 (w .before), w .work .kept .1 .0)
+    omega (arith, not-long oneTrack _ (d .accepted), slice-aggregate-work (w .before .before), slice-aggregate-work-2 (w .before), w .work .kept .1 .0)
 
 slice-aggregate-print : tie.Need-slice-aggregate-print
 slice-aggregate-print c = sym (length-take-le _ _ (array-share-prefix-out (c .before)))

@@ -7,6 +7,7 @@ use native.Mathlib.Omega.{arith}
 use borrow.Author.Needs.{needs}
 use lib.ListN.{length, take}
 use lib.Seq.{length-take-le}
+use Rattle.sheet.specs.Layout.{oneTrack}
 use Rattle.sheet.proofs.Rooms.{posts-few, entries-few, kinds-long, events-long}
 use Rattle.sheet.specs.Reading.{verdictOf, decode, found}
 use Rattle.sheet.specs.declared.Found.{Found}
@@ -34,7 +35,7 @@ few : (c : tie.Else1) → Few (take (c .before .before .before .before .read .re
 few c =
     let s = c .before .before .before .before .before .before .before .before .before .args .s .now in
     let z = read-well c .0 in
-    rw (kinds-read c .0, events-read c .0) (omega (arith, kinds-long s, posts-few s z), omega (arith, events-long s, entries-few s z))
+    rw (kinds-read c .0, events-read c .0) (omega (arith, kinds-long s, posts-few oneTrack s z), omega (arith, events-long s, entries-few oneTrack s z))
 
 -- the register of what was read is the sheet's
 text : (c : tie.Else1) → registerOf (c .before .before .before .before .read .result .stamp) (take (c .before .before .before .before .read .result .posts) (c .before .before .before .before .read .last .1 .0)) (take (c .before .before .before .before .read .result .events) (c .before .before .before .before .read .last .1 .1 .0)) ≡ textFor (c .before .before .before .before .before .before .before .before .before .args .s .now)

@@ -8,6 +8,7 @@ use lib.ListN.{length}
 use lib.Seq.{length-take-le}
 use Rattle.row.proofs.Held.{held-line}
 use Rattle.row.specs.Row.{lineOf}
+use Rattle.sheet.specs.Layout.{oneTrack}
 use Rattle.sheet.proofs.Bytes.{Below}
 use Rattle.sheet.proofs.Rooms.{not-long}
 use Rattle.sheet.specs.Reading.{decode}
@@ -48,7 +49,7 @@ returns c =
     rw (listing-refused (w .before .before .before .args .s .now) _ (sym (slice-aggregate-work (w .before))) (w .work .result) (w .work .last .1 .0) (w .work .ensures) (c .before .before .before .if1 .taken)) (c .put-refused .ensures)
 
 array-share-prefix-out : tie.Need-array-share-prefix-out
-array-share-prefix-out c = omega (arith, not-long (c .before .before .before .before .before .before .args .s .now) (done c .accepted), slice-aggregate-work (c .before .before .before .before), c .before .before .before .work .kept .1 .0)
+array-share-prefix-out c = omega (arith, not-long oneTrack (c .before .before .before .before .before .before .args .s .now) (done c .accepted), slice-aggregate-work (c .before .before .before .before), c .before .before .before .work .kept .1 .0)
 
 slice-aggregate-worked : tie.Need-slice-aggregate-worked
 slice-aggregate-worked c = sym (length-take-le _ _ (array-share-prefix-out (c .before)))

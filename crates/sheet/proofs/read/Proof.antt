@@ -5,6 +5,7 @@ use mathlib.Core.Path.{_≡_, refl, sym, ap, _∙_}
 use native.Mathlib.Omega.{arith}
 use lib.ListN.{length}
 use Rattle.relay.proofs.Tests.{tests}
+use Rattle.sheet.specs.Layout.{oneTrack}
 use Rattle.sheet.specs.Check.{word}
 use Rattle.sheet.specs.Reading.{verdictOf, entriesIn, decode}
 use Rattle.sheet.specs.declared.Verdict.{Verdict}
@@ -28,13 +29,13 @@ returns c =
     rw (c .refuse .ensures) (read-refused (a .s .now) (a .kinds .now) (a .events .now) (c .before .before .test .result) (c .before .before .test .ensures) (c .before .if1 .taken))
 
 get-word-requires : tie.Need-get-word-requires
-get-word-requires c κs = omega (arith, one-block _ (passed c))
+get-word-requires c κs = omega (arith, one-block oneTrack _ (passed c))
 
 cast-n : tie.Need-cast-n
 cast-n c = search tests
 
 entries-in-requires : tie.Need-entries-in-requires
-entries-in-requires c κs = not-long _ (passed (c .before))
+entries-in-requires c κs = not-long oneTrack _ (passed (c .before))
 
 refuse-requires-2 : tie.Need-refuse-requires-2
 refuse-requires-2 c κs = search tests
@@ -55,25 +56,25 @@ returns-3 c =
     (read-short (a .s .now) (a .kinds .now) (a .events .now) (passed (c .before .before .before .before .before))
     (room-events (a .s .now) (a .kinds .now) (a .events .now) (rw (← c .before .before .before .before .get-word .ensures) (c .before .before .if2 .left)) (rw (← c .before .before .before .entries-in .ensures) (c .before .if3 .taken))))
 
-kinds-requires : tie.Need-kinds-requires
-kinds-requires c κs =
+table-requires : tie.Need-table-requires
+table-requires c κs =
     let z = passed (c .before .before .before .before .before) in
-    (rw (c .before .before .before .before .get-word .ensures) (posts-few _ z), one-block _ z, c .before .before .if2 .left)
+    (omega (arith, c .before .before .before .before .get-word .ensures, posts-few oneTrack _ z), one-block oneTrack _ z, c .before .before .if2 .left)
 
 events-requires : tie.Need-events-requires
 events-requires c κs =
     let z = passed (c .before .before .before .before .before .before .before .before .before) in
     let m = c .before .before .before .before .before .before .before .entries-in .ensures in
-    ((rw m (entries-few _ z), rw m (entries-within _ z), c .before .before .before .before .before .if3 .left), rw m (no-upper _ z))
+    ((rw m (entries-few oneTrack _ z), rw m (entries-within oneTrack _ z), c .before .before .before .before .before .if3 .left), rw m (no-upper oneTrack _ z))
 
 cast-t9 : tie.Need-cast-t9
 cast-t9 c = search tests
 
 get-word-requires-2 : tie.Need-get-word-requires-2
-get-word-requires-2 c κs = omega (arith, one-block _ (passed (c .before .before .before .before .before .before .before .before .before .before .before)))
+get-word-requires-2 c κs = omega (arith, one-block oneTrack _ (passed (c .before .before .before .before .before .before .before .before .before .before .before)))
 
 cast-t17 : tie.Need-cast-t17
-cast-t17 c = record { fits = omega (arith, c .before .before .before .before .before .before .before .before .before .before .entries-in .ensures, entries-few _ (passed (c .before .before .before .before .before .before .before .before .before .before .before .before))) }
+cast-t17 c = record { fits = omega (arith, c .before .before .before .before .before .before .before .before .before .before .entries-in .ensures, entries-few oneTrack _ (passed (c .before .before .before .before .before .before .before .before .before .before .before .before))) }
 
 same-length : tie.Need-same-length
 same-length c = search tests
@@ -88,7 +89,7 @@ returns-4 c =
     let m = c .before .before .before .before .before .before .before .before .before .before .entries-in in
     let room = room-both (a .s .now) (a .kinds .now) (a .events .now) (rw (← n .ensures) (c .before .before .before .before .before .before .before .before .before .if2 .left)) (rw (← m .ensures) (c .before .before .before .before .before .before .before .before .if3 .left)) in
     let r = read-found (a .s .now) (a .kinds .now) (a .events .now) (passed (c .before .before .before .before .before .before .before .before .before .before .before .before)) room in
-    (rw (n .ensures, c .get-word2 .ensures, m .ensures) (sym (found-is (a .s .now)) ∙ r .0), c .before .before .before .before .before .before .kinds .ensures ∙ kinds-out (a .s .now) (a .kinds .now) _ (n .ensures), c .before .before .events .ensures ∙ events-out (a .s .now) (a .events .now) _ (m .ensures))
+    (rw (n .ensures, c .get-word2 .ensures, m .ensures) (sym (found-is (a .s .now)) ∙ r .0), c .before .before .before .before .before .before .table .ensures ∙ kinds-out (a .s .now) (a .kinds .now) _ (n .ensures), c .before .before .events .ensures ∙ events-out (a .s .now) (a .events .now) _ (m .ensures))
 
 pub read-spec : {M : Type 1} → statement M
 read-spec =
@@ -104,7 +105,7 @@ read-spec =
     returns-2
     refuse-requires-3
     returns-3
-    kinds-requires
+    table-requires
     events-requires
     cast-t9
     get-word-requires-2

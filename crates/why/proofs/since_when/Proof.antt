@@ -9,6 +9,7 @@ use lib.ListN.{length, getD, take}
 use lib.Seq.{length-take-le}
 use Rattle.relay.proofs.Tests.{tests}
 use Rattle.relay.proofs.Truth.{not-facts, not-false-facts}
+use Rattle.sheet.specs.Layout.{oneTrack}
 use Rattle.sheet.proofs.Rooms.{events-long, entries-few}
 use Rattle.sheet.specs.Entry.{answerOf}
 use Rattle.sheet.specs.Reading.{verdictOf, decode, found}
@@ -41,7 +42,7 @@ count : (c : tie.Else1) → c .before .before .before .before .read .result .eve
 count c = ap (λ (f : Found). f .events) (read-well c .1)
 
 few : (c : tie.Else1) → length (decode (bytes c) .events) ≤ 3780
-few c = omega (arith, events-long (bytes c), entries-few (bytes c) (read-well c .0))
+few c = omega (arith, events-long (bytes c), entries-few oneTrack (bytes c) (read-well c .0))
 
 slice-aggregate-read : tie.Need-slice-aggregate-read
 slice-aggregate-read c = search tests

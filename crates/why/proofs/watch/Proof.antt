@@ -20,7 +20,7 @@ use Rattle.working.proofs.Begins.{few, row-next}
 use Rattle.working.proofs.Steps.{run-none, run-more}
 use Rattle.why.specs.Why.{stateAfter, soAfter, lastMade, rightAnswers, sinceWhen}
 use Rattle.why.proofs.Right.{Right, right-iff, wrong-at}
-use Rattle.why.proofs.Words.{held-word}
+use Rattle.row.proofs.Words.{held-word}
 use Rattle.why.proofs.Watched.{upTo, none-yet, one-more, all-watched}
 use Rattle.relay.proofs.Tests.{tests}
 use Rattle.why.proofs.watch.Statement.{statement}

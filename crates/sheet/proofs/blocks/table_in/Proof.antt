@@ -1,107 +1,97 @@
--- `sheet::blocks::table_in` meets its contract: what is left of the table decides, at each turn.
+-- `sheet::blocks::table_in` meets its contract: the first table, and of two tracks the second and the circuit.
 -- Assumes nothing.
-use Prim.Native.Nat.{ℕ, _+_, _-_, _*_, _≤_, _<_}
-use mathlib.Core.Path.{_≡_, refl, sym, ap, _∙_}
-use mathlib.Core.Bool.{Bool, true, false, _&&_}
-use mathlib.Core.List.{List}
+use Prim.Native.Nat.{ℕ, _+_, _*_, _≤_}
+use mathlib.Core.Path.{_≡_, refl, sym, subst, _∙_}
+use mathlib.Core.Bool.{true, false}
 use native.Mathlib.Nat.{zero-add}
 use native.Mathlib.Omega.{arith}
 use borrow.Author.Tests.{not-true, not-false}
-use lib.ListN.{length}
 use Rattle.relay.proofs.Tests.{tests}
-use Rattle.relay.specs.Kinds.{countFits, kindFits, tableOk}
-use Rattle.line.proofs.Table.{Rest}
+use Rattle.relay.specs.Kinds.{tableOk}
 use Rattle.sheet.specs.Check.{word}
-use Rattle.sheet.specs.Reading.{kindsIn}
-use Rattle.sheet.proofs.Table.{few, stops, goes, ended, decides}
+use Rattle.sheet.specs.Reading.{kindsAt}
+use Rattle.sheet.proofs.Table.{table-few, fits-one, fits-two, fits-bad}
 use Rattle.sheet.proofs.blocks.table_in.Statement.{statement}
 use Rattle.sheet.proofs.blocks.table_in.Tie as tie
 
-abbrev Inv-loop : tie.InvT-loop
-Inv-loop s n i₀ i = (i ≤ n) × (n ≡ word s 0 1) × (n ≤ 32) × (countFits n ≡ true) × (Rest (kindsIn s) i ≡ Rest (kindsIn s) 0)
+-- past the first test the first table is right
+first : (c : tie.Else1) → tableOk (kindsAt (c .before .before .before .args .s .now) 3) ≡ true
+first c = sym (c .before .kinds-at .ensures) ∙ not-false _ (c .if1 .left)
 
-abbrev μ-loop : tie.MeasureT-loop
-μ-loop s n i₀ i = n - i
+-- past the second the sheet is of two tracks
+two : (c : tie.Else2) → word (c .before .before .before .before .args .s .now) 0 0 ≡ 2
+two c = sym (c .before .before .before .before .pre .1) ∙ c .if2 .left
 
-get-word-requires : tie.Need-get-word-requires Inv-loop μ-loop
+kinds-at-requires : tie.Need-kinds-at-requires
+kinds-at-requires c κs = search tests
+
+returns : tie.Need-returns
+returns c = sym (fits-bad (c .before .before .before .args .s .now) (sym (c .before .kinds-at .ensures) ∙ not-true _ (c .if1 .taken)))
+
+returns-2 : tie.Need-returns-2
+returns-2 c =
+    let u = c .before .before .before .before in
+    sym (fits-one (u .args .s .now) (λ e. c .if2 .taken (u .pre .1 ∙ e)) ∙ first (c .before))
+
+get-word-requires : tie.Need-get-word-requires
 get-word-requires c κs = search tests
 
-cast-n : tie.Need-cast-n Inv-loop μ-loop
+cast-n : tie.Need-cast-n
 cast-n c = search tests
 
-count-fits-requires : tie.Need-count-fits-requires Inv-loop μ-loop
-count-fits-requires c κs = search tests
+add-kinds-at : tie.Need-add-kinds-at
+add-kinds-at c = search tests
 
-returns : tie.Need-returns Inv-loop μ-loop
-returns c =
-    let s = c .before .before .before .before .args .s .now in
-    let e : c .before .before .get-word .result ≡ word s 0 1 = c .before .before .get-word .ensures in
-    decides s false (Rest (kindsIn s) 0) (rw (← e) (sym (c .before .count-fits .ensures) ∙ not-true _ (c .if1 .taken))) refl
+kinds-at-requires-2 : tie.Need-kinds-at-requires-2
+kinds-at-requires-2 c κs =
+    (omega (arith, c .get-word .ensures, table-few _ 3 (first (c .before .before))), c .before .before .before .before .before .pre .0)
 
-loop-holds : tie.Need-loop-holds Inv-loop μ-loop
-loop-holds c =
-    let fits = sym (c .before .count-fits .ensures) ∙ not-false _ (c .if1 .left) in
-    (search tests, c .before .before .get-word .ensures, few _ fits, fits, refl)
+returns-3 : tie.Need-returns-3
+returns-3 c =
+    let e = c .before .before .before in
+    let s = e .before .before .before .before .args .s .now in
+    let n : c .before .before .get-word .result ≡ word s 0 1 = c .before .before .get-word .ensures in
+    let second : tableOk (kindsAt s (3 + word s 0 1)) ≡ false = subst (λ (m : ℕ). tableOk (kindsAt s (3 + m)) ≡ false) n (sym (c .before .kinds-at2 .ensures) ∙ not-true _ (c .if3 .taken)) in
+    sym (fits-two s (two e) ∙ rw (first (e .before), second) refl)
 
-add-get-word : tie.Need-add-get-word Inv-loop μ-loop
-add-get-word c = search tests
-
-mul-get-word : tie.Need-mul-get-word Inv-loop μ-loop
+mul-get-word : tie.Need-mul-get-word
 mul-get-word c = search tests
 
-get-word-requires-2 : tie.Need-get-word-requires-2 Inv-loop μ-loop
-get-word-requires-2 c κs = search tests
+add-get-word : tie.Need-add-get-word
+add-get-word c = search tests
 
-kind-fits-requires : tie.Need-kind-fits-requires Inv-loop μ-loop
-kind-fits-requires c κs = search tests
+mul-get-word-2 : tie.Need-mul-get-word-2
+mul-get-word-2 c = search tests
 
-returns-2 : tie.Need-returns-2 Inv-loop μ-loop
-returns-2 c =
-    let l = c .before .before .before .before in
-    let s = l .before .before .before .before .before .args .s .now in
-    let e = l .loop .inv .1 in
-    let w : word s 0 (3 + l .loop .i) ≡ c .before .before .get-word2 .result = rw zero-add (sym (c .before .before .get-word2 .ensures)) in
-    decides s true false (rw (← e) (l .loop .inv .3))
-    (stops s (l .loop .i) (omega arith) (l .loop .inv .4) (rw (← e, w) (sym (c .before .kind-fits .ensures) ∙ not-true _ (c .if2 .taken))))
+get-word-requires-2 : tie.Need-get-word-requires-2
+get-word-requires-2 c κs =
+    let e = c .before .before .before in
+    omega (arith, c .before .before .get-word .ensures, table-few _ 3 (first (e .before)), e .before .before .before .before .pre .0)
 
-add-i : tie.Need-add-i Inv-loop μ-loop
-add-i c = search tests
-
-loop-less : tie.Need-loop-less Inv-loop μ-loop
-loop-less c = search tests
-
-loop-again : tie.Need-loop-again Inv-loop μ-loop
-loop-again c =
-    let l = c .before .before .before .before in
-    let s = l .before .before .before .before .before .args .s .now in
-    let e = l .loop .inv .1 in
-    let w : word s 0 (3 + l .loop .i) ≡ c .before .before .get-word2 .result = rw zero-add (sym (c .before .before .get-word2 .ensures)) in
-    (search tests, e, l .loop .inv .2, l .loop .inv .3, goes s (l .loop .i) (omega arith) (l .loop .inv .4) (rw (← e, w) (sym (c .before .kind-fits .ensures) ∙ not-false _ (c .if2 .left))))
-
-returns-3 : tie.Need-returns-3 Inv-loop μ-loop
-returns-3 c =
-    let l = c .before in
-    let s = l .before .before .before .before .before .args .s .now in
-    let e = l .loop .inv .1 in
-    decides s true true (rw (← e) (l .loop .inv .3)) (ended s (l .loop .i) (omega arith) (l .loop .inv .4))
+returns-4 : tie.Need-returns-4
+returns-4 c =
+    let b = c .before in
+    let e = b .before .before .before in
+    let s = e .before .before .before .before .args .s .now in
+    let n : b .before .before .get-word .result ≡ word s 0 1 = b .before .before .get-word .ensures in
+    let second : tableOk (kindsAt s (3 + word s 0 1)) ≡ true = subst (λ (m : ℕ). tableOk (kindsAt s (3 + m)) ≡ true) n (sym (b .before .kinds-at2 .ensures) ∙ not-false _ (b .if3 .left)) in
+    let w : word s 0 (3 + word s 0 1 * 2) ≡ c .get-word2 .result = rw (← n) (rw zero-add (sym (c .get-word2 .ensures))) in
+    sym (fits-two s (two e) ∙ rw (first (e .before), second, w) refl)
 
 pub table-in-spec : {M : Type 1} → statement M
 table-in-spec =
     tie.close
     (tie.spec
-    Inv-loop
-    μ-loop
+    kinds-at-requires
+    returns
+    returns-2
     get-word-requires
     cast-n
-    count-fits-requires
-    returns
-    loop-holds
-    add-get-word
+    add-kinds-at
+    kinds-at-requires-2
+    returns-3
     mul-get-word
+    add-get-word
+    mul-get-word-2
     get-word-requires-2
-    kind-fits-requires
-    returns-2
-    add-i
-    loop-less
-    loop-again
-    returns-3)
+    returns-4)

@@ -23,10 +23,13 @@ post-in-requires c κs = search needs
 answer-in-requires : tie.Need-answer-in-requires
 answer-in-requires c κs = search needs
 
+track-in-requires : tie.Need-track-in-requires
+track-in-requires c κs = search needs
+
 returns-2 : tie.Need-returns-2
 unfolding unpacked
 returns-2 c =
-    rw (sym (c .before .before .before .before .upper-zero .ensures) ∙ not-false _ (c .before .before .before .if1 .left), c .before .before .number-in .ensures, c .before .post-in .ensures, c .answer-in .ensures)
+    rw (sym (c .before .before .before .before .before .upper-zero .ensures) ∙ not-false _ (c .before .before .before .before .if1 .left), c .before .before .before .number-in .ensures, c .before .before .post-in .ensures, c .before .answer-in .ensures, c .track-in .ensures)
 
 pub unpack-spec : {M : Type 1} → statement M
 unpack-spec =
@@ -37,4 +40,5 @@ unpack-spec =
     number-in-requires
     post-in-requires
     answer-in-requires
+    track-in-requires
     returns-2)

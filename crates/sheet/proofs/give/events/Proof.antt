@@ -9,7 +9,7 @@ use lib.ListN.{length, drop}
 use Rattle.sheet.specs.Words.{tab, wordAt}
 use Rattle.sheet.specs.Check.{word}
 use Rattle.sheet.specs.Entry.{upperZero}
-use Rattle.sheet.specs.Reading.{entryIn}
+use Rattle.sheet.specs.Reading.{formIn, entryIn}
 use Rattle.sheet.proofs.Packing.{told-upper, told-fields}
 use Rattle.sheet.proofs.Tabs.{front-none, front-more, length-front}
 use Rattle.relay.proofs.Tests.{tests}
@@ -17,10 +17,13 @@ use Rattle.sheet.proofs.give.events.Statement.{statement}
 use Rattle.sheet.proofs.give.events.Tie as tie
 
 abbrev Inv-loop : tie.InvT-loop
-Inv-loop s m room₀ i₀ room i = (i ≤ m) × (length room ≡ length room₀) × (room ≡ tab (entryIn s) i ++ drop i room₀)
+Inv-loop s m room₀ tracks i₀ room i = (i ≤ m) × (length room ≡ length room₀) × (room ≡ tab (entryIn s) i ++ drop i room₀)
 
 abbrev μ-loop : tie.MeasureT-loop
-μ-loop s m room₀ i₀ room i = m - i
+μ-loop s m room₀ tracks i₀ room i = m - i
+
+get-word-requires : tie.Need-get-word-requires Inv-loop μ-loop
+get-word-requires c κs = search tests
 
 loop-holds : tie.Need-loop-holds Inv-loop μ-loop
 loop-holds c = (search tests, search tests, sym (front-none (entryIn _) _))
@@ -43,8 +46,8 @@ mul-at-3 c = search tests
 add-at-3 : tie.Need-add-at-3 Inv-loop μ-loop
 add-at-3 c = search tests
 
-get-word-requires : tie.Need-get-word-requires Inv-loop μ-loop
-get-word-requires c κs = search tests
+get-word-requires-2 : tie.Need-get-word-requires-2 Inv-loop μ-loop
+get-word-requires-2 c κs = search tests
 
 unpack-requires : tie.Need-unpack-requires Inv-loop μ-loop
 unpack-requires c κs = search tests
@@ -61,19 +64,20 @@ same-length c = search tests
 returns : tie.Need-returns Inv-loop μ-loop
 returns c =
     let l = c .before .before .before .before .before in
-    let a = l .before .before .args in
-    let bad : upperZero (word (a .s .now) (1 + l .loop .i / 60) (1 + l .loop .i % 60 * 2)) ≡ false =
-    rw (← c .before .before .before .get-word .ensures) (told-upper _ _ (c .before .before .unpack .ensures) (c .enum-told .given .1)) in
-    absurd (false≢true (sym bad ∙ l .before .before .pre .1 (l .loop .i) (omega arith)))
+    let g = l .before in
+    let u = g .before .before in
+    let bad : upperZero (formIn (u .args .s .now)) (word (u .args .s .now) (1 + l .loop .i / 60) (1 + l .loop .i % 60 * 2)) ≡ false =
+    rw (← g .get-word .ensures, ← c .before .before .before .get-word2 .ensures) (told-upper _ _ _ (c .before .before .unpack .ensures) (c .enum-told .given .1)) in
+    absurd (false≢true (sym bad ∙ u .pre .1 (l .loop .i) (omega arith)))
 
 add-get-word : tie.Need-add-get-word Inv-loop μ-loop
 add-get-word c = search tests
 
-get-word-requires-2 : tie.Need-get-word-requires-2 Inv-loop μ-loop
-get-word-requires-2 c κs = search tests
+get-word-requires-3 : tie.Need-get-word-requires-3 Inv-loop μ-loop
+get-word-requires-3 c κs = search tests
 
-mul-t16 : tie.Need-mul-t16 Inv-loop μ-loop
-mul-t16 c = search tests
+mul-t17 : tie.Need-mul-t17 Inv-loop μ-loop
+mul-t17 c = search tests
 
 slice-set-from-room : tie.Need-slice-set-from-room Inv-loop μ-loop
 slice-set-from-room c = search tests
@@ -87,14 +91,14 @@ loop-less c = search tests
 loop-again : tie.Need-loop-again Inv-loop μ-loop
 loop-again c =
     let l = c .before .before .before .before .before .before .before in
-    let s = l .before .before .args .s .now in
+    let s = l .before .before .before .args .s .now in
     let i = l .loop .i in
     let next : (1 + i / 60) * 512 + (1 + i % 60 * 2) * 4 + 4 ≡ (1 + i / 60) * 512 + (2 + i % 60 * 2) * 4 = omega arith in
-    let t : c .get-word2 .result ≡ word s (1 + i / 60) (2 + i % 60 * 2) = c .get-word2 .ensures ∙ ap (wordAt s) next in
-    let f = told-fields _ _ (c .before .before .before .before .unpack .ensures) _ _ _ (c .before .before .number .given .1) in (
+    let t : c .get-word3 .result ≡ word s (1 + i / 60) (2 + i % 60 * 2) = c .get-word3 .ensures ∙ ap (wordAt s) next in
+    let f = told-fields _ _ _ (c .before .before .before .before .unpack .ensures) _ _ _ _ (c .before .before .number .given .1) in (
       search tests,
       search tests,
-      rw (f .1, f .2, f .3, c .before .before .before .before .before .get-word .ensures, t, l .loop .inv .2)
+      rw (f .1, f .2, f .3, c .before .before .before .before .before .get-word2 .ensures, t, l .loop .inv .2)
           (front-more (entryIn s) [] i _ (omega arith)),
     )
 
@@ -102,7 +106,7 @@ same-length-2 : tie.Need-same-length-2 Inv-loop μ-loop
 same-length-2 c = search tests
 
 returns-2 : tie.Need-returns-2 Inv-loop μ-loop
-returns-2 c = let e : c .before .loop .i ≡ c .before .before .before .args .m = omega arith in rw e at (c .before .loop .inv .2)
+returns-2 c = let e : c .before .loop .i ≡ c .before .before .before .before .args .m = omega arith in rw e at (c .before .loop .inv .2)
 
 pub events-spec : {M : Type 1} → statement M
 events-spec =
@@ -110,6 +114,7 @@ events-spec =
     (tie.spec
     Inv-loop
     μ-loop
+    get-word-requires
     loop-holds
     add-at
     mul-at
@@ -117,15 +122,15 @@ events-spec =
     add-at-2
     mul-at-3
     add-at-3
-    get-word-requires
+    get-word-requires-2
     unpack-requires
     enum-known-number
     enum-told
     same-length
     returns
     add-get-word
-    get-word-requires-2
-    mul-t16
+    get-word-requires-3
+    mul-t17
     slice-set-from-room
     add-i
     loop-less

@@ -1,4 +1,4 @@
--- `put::events` meets its contract: the count, a word and a stamp for each event with zeros past them, and the check are the block in its order. Assumes nothing.
+-- `put::block` meets its contract: the count, a word and a stamp for each event with zeros past them, and the check are the block in its order. Assumes nothing.
 use mathlib.Core.Path.{_≡_, refl, sym, _∙_}
 use Prim.Native.Nat.{ℕ, _+_, _*_, _-_, _≤_}
 use native.Mathlib.Omega.{arith}
@@ -9,14 +9,14 @@ use Rattle.sheet.specs.Sheet.{held, eventsWord}
 use Rattle.sheet.specs.Puts.{puts, eventsOnly}
 use Rattle.sheet.proofs.Puts.{puts-none}
 use Rattle.sheet.proofs.Stores.{checked, pair-more, events-body}
-use Rattle.sheet.proofs.put.events.Statement.{statement}
-use Rattle.sheet.proofs.put.events.Tie as tie
+use Rattle.sheet.proofs.put.block.Statement.{statement}
+use Rattle.sheet.proofs.put.block.Tie as tie
 
 abbrev Inv-loop : tie.InvT-loop
-Inv-loop events c out₀ b at j₀ out j = (j ≤ 63) × (length out ≡ length out₀) × (out ≡ puts (λ (k : ℕ). eventsWord (eventsOnly events) c (1 + k)) (at + 4) (j * 2) out₀)
+Inv-loop events tracks c out₀ b at j₀ out j = (j ≤ 63) × (length out ≡ length out₀) × (out ≡ puts (λ (k : ℕ). eventsWord (eventsOnly events tracks) c (1 + k)) (at + 4) (j * 2) out₀)
 
 abbrev μ-loop : tie.MeasureT-loop
-μ-loop events c out₀ b at j₀ out j = 63 - j
+μ-loop events tracks c out₀ b at j₀ out j = 63 - j
 
 add-b : tie.Need-add-b Inv-loop μ-loop
 add-b c = search needs
@@ -81,8 +81,8 @@ loop-again c =
     let p = q .before .before .before .before in
     let r = p .before .before in
     let l = r .before .before in
-    let u = l .before .before .before .before .before .before .before in
-    let t = eventsOnly (u .args .events .now) in (
+    let u = l .before .before .before .before .before .before .before .before in
+    let t = eventsOnly (u .args .events .now) (u .args .tracks .now) in (
       search needs,
       q .put-word3 .kept .0 ∙ p .put-word2 .kept .0 ∙ l .loop .inv .1,
       q .put-word3 .ensures
@@ -101,16 +101,16 @@ returns c =
     let l = s .before .before .before in
     let w = l .before .before .before in
     let h = w .before in
-    let u = h .before .before .before in
-    let t = eventsOnly (u .args .events .now) in
+    let u = h .before .before .before .before in
+    let t = eventsOnly (u .args .events .now) (u .args .tracks .now) in
     let d = u .args .out .now in
     let n : l .loop .j ≡ 63 = omega arith in
     let one : w .put-word .last .0 ≡ putWord d ((u .args .c + 1) * 512) (held (length (t .events)) (u .args .c)) = w .put-word .ensures ∙ rw (h .held-in .ensures) in
     let body = events-body t (u .args .c) d (l .loop .out) (l .loop .inv .2 ∙ rw (n, one)) in
     s .set-check .ensures ∙ checked t (u .args .c + 1) d (omega arith) (l .loop .out) body
 
-pub events-spec : {M : Type 1} → statement M
-events-spec =
+pub block-spec : {M : Type 1} → statement M
+block-spec =
     tie.close
     (tie.spec
     Inv-loop

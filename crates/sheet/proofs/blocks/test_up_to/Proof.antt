@@ -1,4 +1,4 @@
--- `sheet::test` meets its contract: the length first, then the blocks.
+-- `sheet::blocks::test_up_to` meets its contract: the length first, then the blocks.
 -- Assumes nothing.
 use Prim.Native.Nat.{ℕ, _*_, _/_, _≤_}
 use mathlib.Core.Path.{_≡_, refl, sym, _∙_}
@@ -9,8 +9,8 @@ use lib.ListN.{length}
 use Rattle.relay.proofs.Tests.{tests}
 use Rattle.sheet.specs.Reading.{lengthOk}
 use Rattle.sheet.proofs.Lengths.{Whole, whole, wrong-length, right-length}
-use Rattle.sheet.proofs.test.Statement.{statement}
-use Rattle.sheet.proofs.test.Tie as tie
+use Rattle.sheet.proofs.blocks.test_up_to.Statement.{statement}
+use Rattle.sheet.proofs.blocks.test_up_to.Tie as tie
 
 length-ok-requires : tie.Need-length-ok-requires
 length-ok-requires c κs = search tests
@@ -27,7 +27,7 @@ verdict-requires c κs = search tests
 
 returns : tie.Need-returns
 returns c =
-    c .verdict .ensures ∙ sym (wrong-length _ (sym (c .before .before .length-ok .ensures) ∙ not-true _ (c .before .if1 .taken)))
+    c .verdict .ensures ∙ sym (wrong-length _ _ (sym (c .before .before .length-ok .ensures) ∙ not-true _ (c .before .if1 .taken)))
 
 cast-first-bad : tie.Need-cast-first-bad
 cast-first-bad c = record { fits = omega (arith, blocks c .most) }
@@ -36,8 +36,8 @@ first-bad-requires : tie.Need-first-bad-requires
 first-bad-requires c κs = omega (arith, blocks c .most, blocks c .long)
 
 returns-2 : tie.Need-returns-2
-returns-2 c = c .first-bad .ensures ∙ sym (right-length _ (right (c .before)))
+returns-2 c = c .first-bad .ensures ∙ sym (right-length _ _ (right (c .before)))
 
-pub test-spec : {M : Type 1} → statement M
-test-spec =
+pub test-up-to-spec : {M : Type 1} → statement M
+test-up-to-spec =
     tie.close (tie.spec length-ok-requires verdict-requires returns cast-first-bad first-bad-requires returns-2)

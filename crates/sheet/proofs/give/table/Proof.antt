@@ -1,4 +1,4 @@
--- `sheet::give::kinds` meets its contract: the kinds that are stored stand before what was there.
+-- `sheet::give::table` meets its contract: the words that are stored stand before what was there.
 -- Assumes nothing.
 use Prim.Native.Nat.{ℕ, _+_, _-_, _*_, _≤_, _<_}
 use mathlib.Core.Path.{_≡_, refl, sym, ap, _∙_}
@@ -10,8 +10,8 @@ use Rattle.sheet.specs.Words.{tab}
 use Rattle.sheet.specs.Check.{word}
 use Rattle.sheet.proofs.Tabs.{front-none, front-more, length-front}
 use Rattle.relay.proofs.Tests.{tests}
-use Rattle.sheet.proofs.give.kinds.Statement.{statement}
-use Rattle.sheet.proofs.give.kinds.Tie as tie
+use Rattle.sheet.proofs.give.table.Statement.{statement}
+use Rattle.sheet.proofs.give.table.Tie as tie
 
 -- kind i of a sheet
 abbrev kind : List ℕ → ℕ → ℕ
@@ -60,8 +60,8 @@ same-length c = search tests
 returns : tie.Need-returns Inv-loop μ-loop
 returns c = let e : c .before .loop .i ≡ c .before .before .before .before .args .n = omega arith in rw e at (c .before .loop .inv .2)
 
-pub kinds-spec : {M : Type 1} → statement M
-kinds-spec =
+pub table-spec : {M : Type 1} → statement M
+table-spec =
     tie.close
     (tie.spec
     Inv-loop
