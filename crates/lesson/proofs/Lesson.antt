@@ -55,7 +55,7 @@ unfolding step onto run answered
 works-on b a [] r = r
 works-on b a (e ∷ es) r = works-on _ (next a e) es (further r (given-event (asked e)))
 
-blanks-long : (ks : List ℕ) → length (blanks ks) ≡ length ks
+pub blanks-long : (ks : List ℕ) → length (blanks ks) ≡ length ks
 blanks-long [] = refl
 blanks-long (k ∷ ks) = ap suc (blanks-long ks)
 
@@ -136,15 +136,25 @@ module _ (ks : List ℕ) (t : ℕ) (right : tableOk ks ≡ true) where
 abbrev Counts : ℕ → List Entry → After → Type 0
 Counts t b a = a .told .head ≡ head (takenIn b) (lastStamp t b)
 
--- one event more
-head-next : (t : ℕ) (b : List Entry) (a : After) (e : List ℕ) → Counts t b a → Counts t (entry (asked e) (next a e .told .answer) ∷ b) (next a e)
+-- one entry more: what the head is before it, and after it where it was taken and where it was refused
+pub head-moved : (t : ℕ) (b : List Entry) (s s′ : Head) (x : Entry)
+    → (x .answer ≡ 0 → s′ ≡ head (s .taken + 1) (x .event .stamp))
+    → ((x .answer ≡ 0 → ⊥) → s′ ≡ s)
+    → s ≡ head (takenIn b) (lastStamp t b)
+    → s′ ≡ head (takenIn (x ∷ b)) (lastStamp t (x ∷ b))
 unfolding takenIn lastStamp tally
-head-next t b a e z =
-    split (eqb (next a e .told .answer) taken)
+head-moved t b s s′ x f g z =
+    split (eqb (x .answer) taken)
     (λ y.
-    let more : a .told .head .taken + 1 ≡ 1 + tally (λ x b. eqb (x .answer) taken) b = omega (arith, ap (λ (s : Head). s .taken) z) in
-    rw y (head-moves (a .line) (a .told .head) (numberOf e) (postOf e) (stampOf e) (eqb-true _ _ y) ∙ ap (λ (n : ℕ). head n (stampOf e)) more))
-    (λ y. rw (y, zero-add) (refused-alters-nothing (a .line) (a .told .head) (numberOf e) (postOf e) (stampOf e) (eqb-false _ _ y) .1 ∙ z))
+    let more : s .taken + 1 ≡ 1 + tally (λ x b. eqb (x .answer) taken) b = omega (arith, ap (λ (s : Head). s .taken) z) in
+    rw y (f (eqb-true _ _ y) ∙ ap (λ (n : ℕ). head n (x .event .stamp)) more))
+    (λ y. rw (y, zero-add) (g (eqb-false _ _ y) ∙ z))
+
+head-next : (t : ℕ) (b : List Entry) (a : After) (e : List ℕ) → Counts t b a → Counts t (entry (asked e) (next a e .told .answer) ∷ b) (next a e)
+head-next t b a e =
+    head-moved t b (a .told .head) (next a e .told .head) (entry (asked e) (next a e .told .answer))
+    (head-moves (a .line) (a .told .head) (numberOf e) (postOf e) (stampOf e))
+    (λ y. refused-alters-nothing (a .line) (a .told .head) (numberOf e) (postOf e) (stampOf e) y .1)
 
 head-on : (t : ℕ) (b : List Entry) (a : After) (es : List (List ℕ)) → Counts t b a → Counts t (onto b (answered a es)) (run a es)
 unfolding onto run answered

@@ -1,7 +1,10 @@
+pub mod Along
 pub mod Steps
+pub mod Both
 pub mod Begins
 pub mod Answers
 pub mod Works
+pub mod WorksTracks
 pub mod Twice
 pub mod One
 pub mod Named

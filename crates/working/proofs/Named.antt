@@ -18,11 +18,11 @@ use Rattle.sheet.proofs.Rooms.{placed, all-events, events-long}
 use Rattle.sheet.proofs.Tabs.{getD-tab}
 use Rattle.sheet.specs.Check.{word}
 use Rattle.sheet.specs.Entry.{answerOf, answerIn}
-use Rattle.sheet.specs.Layout.{perBlock, unanswered, contentsWrong, roomShort, upperBits}
+use Rattle.sheet.specs.Layout.{perBlock, unanswered, contentsWrong, roomShort, upperBits, oneTrack}
 use Rattle.sheet.specs.Reading.{verdict, verdictOf, accepted, blocksIn, entriesIn, entryIn, decode}
 use Rattle.sheet.specs.declared.Verdict.{Verdict}
 use Rattle.working.proofs.Answers.{unanswered-before, answered-there}
-use Rattle.working.specs.Working.{firstAnswered, workVerdict}
+use Rattle.working.specs.Working.{firstAnswered, workVerdict, workVerdictUpTo}
 
 -- no later block before block e has an answer other than 31
 abbrev pub Unanswered : List ℕ → ℕ → Type 0
@@ -31,7 +31,7 @@ Unanswered s e = (b j : ℕ) → 1 ≤ b → b < e → j < word s b 0 → answer
 -- what a verdict on working a sheet may be, with an output of m bytes
 pub data NamedWork (s : List ℕ) (m : ℕ) : Verdict → Type 0 where
   -- 'reads it whole first'
-  unread : {v : Verdict} → (v .number ≡ 0 → ⊥) → NamedSheet s v → NamedWork s m v
+  unread : {v : Verdict} → (v .number ≡ 0 → ⊥) → NamedSheet oneTrack s v → NamedWork s m v
   -- 'refuses 20 at the first block with an answer other than 31'
   answered : (b j : ℕ) → verdictOf s .number ≡ 0 → 1 ≤ b → b < blocksIn (length s) → j < word s b 0
       → (answerIn (word s b (1 + j * 2)) ≡ unanswered → ⊥)
@@ -46,8 +46,8 @@ module _ (s : List ℕ) (z : verdictOf s .number ≡ 0) where
   abbrev n : ℕ
   n = blocksIn (length s)
 
-  good : Good n s
-  good = accepted-good s z
+  good : Good oneTrack n s
+  good = accepted-good oneTrack s z
 
   -- each place of a block up to its number is an event's
   event-at : (b j : ℕ) → 1 ≤ b → b < n → j < word s b 0 → (b - 1) * perBlock + j < entriesIn s
@@ -92,11 +92,11 @@ module _ (s : List ℕ) (z : verdictOf s .number ≡ 0) where
   -- and its events come before it where it has none
   after : (e : ℕ) → Unanswered s e → (i : ℕ) → i < entriesIn s → 1 + i / perBlock < e → i ≡ first → ⊥
   after e u i h k q =
-      answered-there (decode s .events) (omega (arith, long)) (rw (← q) (answer-at i h ∙ u (1 + i / perBlock) (i % perBlock) (omega arith) k (placed s z i h .1)))
+      answered-there (decode s .events) (omega (arith, long)) (rw (← q) (answer-at i h ∙ u (1 + i / perBlock) (i % perBlock) (omega arith) k (placed oneTrack s z i h .1)))
 
 -- ---- what working refuses
 work-named : (s : List ℕ) (m : ℕ) → NamedWork s m (workVerdict s m)
-unfolding workVerdict
+unfolding workVerdictUpTo
 work-named s m =
     split (accepted s)
     (λ a.
@@ -104,7 +104,7 @@ work-named s m =
     split (ltb (first s z) (length (decode s .events)))
     (λ t.
     let l = ltb-true (first s z) (length (decode s .events)) t in
-    let p = placed s z (first s z) (omega (arith, long s z)) in
+    let p = placed oneTrack s z (first s z) (omega (arith, long s z)) in
     rw (a, t)
     (answered (1 + first s z / perBlock) (first s z % perBlock) z (omega arith) (p .0) (p .1)
     (λ e. answered-there (decode s .events) l (answer-at s z (first s z) (omega (arith, long s z)) ∙ e))
@@ -115,7 +115,7 @@ work-named s m =
     split (leb (length s) m)
     (λ r. rw (a, t, r) (fits z u (leb-true (length s) m r)))
     (λ r. rw (a, t, r) (short z u (leb-false (length s) m r)))))
-    (λ a. rw a (unread (eqb-false (verdictOf s .number) 0 a) (verdict-iff s (verdictOf s) .0 refl)))
+    (λ a. rw a (unread (eqb-false (verdictOf s .number) 0 a) (verdict-iff oneTrack s (verdictOf s) .0 refl)))
 
 -- no event is answered where no block has an answer
 none : (s : List ℕ) (z : verdictOf s .number ≡ 0) → Unanswered s (blocksIn (length s)) → ltb (first s z) (length (decode s .events)) ≡ false
@@ -124,11 +124,11 @@ none s z u =
     (λ h. le-ltb (first s z) (length (decode s .events)) h)
     (λ h.
     let l : first s z < entriesIn s = omega (arith, long s z) in
-    absurd (after s z (blocksIn (length s)) u (first s z) l (placed s z (first s z) l .0) refl))
+    absurd (after s z (blocksIn (length s)) u (first s z) l (placed oneTrack s z (first s z) l .0) refl))
 
 names-work : (s : List ℕ) (m : ℕ) (v : Verdict) → NamedWork s m v → workVerdict s m ≡ v
-unfolding workVerdict
-names-work s m v (unread h b) = let e = verdict-iff s v .1 b in rw (e, ne-eqb (v .number) 0 h)
+unfolding workVerdictUpTo
+names-work s m v (unread h b) = let e = verdict-iff oneTrack s v .1 b in rw (e, ne-eqb (v .number) 0 h)
 names-work s m v (answered b j z h k l q u) =
     let i = (b - 1) * perBlock + j in
     let there = event-at s z b j h k l in
@@ -150,7 +150,7 @@ work-iff s m v = (λ e. subst (NamedWork s m) e (work-named s m), names-work s m
 
 -- 02, item 6: the position is 0 where no event's word is named
 work-none : (s : List ℕ) (m : ℕ) (v : Verdict) → NamedWork s m v → (v .number ≡ upperBits → ⊥) → v .position ≡ 0
-work-none s m v (unread h b) n = named-none s v b n
+work-none s m v (unread h b) n = named-none oneTrack s v b n
 work-none s m v (answered b j z h k l q u) n = refl
 work-none s m v (short z u h) n = refl
 work-none s m v (fits z u h) n = refl

@@ -1,48 +1,34 @@
 -- One event more: what a run leaves after the first i + 1 events is one event after what it leaves after the first i.
 -- Assumes nothing.
-use Prim.Native.Nat.{ℕ, zero, suc, _+_, _≤_, _<_}
-use mathlib.Core.Path.{_≡_, refl, sym, ap, _∙_}
+use Prim.Native.Nat.{ℕ, _+_, _<_}
+use mathlib.Core.Path.{_≡_, refl, _∙_}
 use mathlib.Core.List.{List, [], _∷_, _++_}
-use native.Mathlib.Numerals.{add-one}
-use native.Mathlib.Omega.{arith}
-use lib.ListN.{length, getD, set, take, drop, length-append}
-use lib.Seq.{take-suc, take-all, drop-cons, set-at, append-snoc, length-take-le, getD-at}
+use lib.ListN.{length, getD, set, take, drop}
 use Rattle.relay.proofs.Frame.{length-stays}
 use Rattle.relay.specs.Line.{After}
-use Rattle.working.specs.Run.{next, run, answeredBy, answered}
+use Rattle.working.specs.Run.{next, run, answeredBy, answered, nextBy, runBy, answersBy}
+use Rattle.working.proofs.Along as along
+use Rattle.working.proofs.Along.{Goes, said-long}
 
--- the events one after the other
+-- the run of a sheet of one track
+goes : Goes next (λ a e. answeredBy e (next a e .told .answer)) run answered
+unfolding run answered
+goes = record { run-none = λ a. refl; run-first = λ a e es. refl; said-none = λ a. refl; said-first = λ a e es. refl }
+
+-- and of either form
+pub goes-by : (form c : ℕ) → Goes (nextBy form c) (λ a e. answeredBy e (nextBy form c a e .told .answer)) (runBy form c) (answersBy form c)
+unfolding runBy answersBy
+goes-by form c = record { run-none = λ a. refl; run-first = λ a e es. refl; said-none = λ a. refl; said-first = λ a e es. refl }
+
 pub run-none : (a : After) → run a [] ≡ a
-unfolding run
-run-none a = refl
+run-none a = goes .run-none a
 
 pub answered-none : (a : After) → answered a [] ≡ []
-unfolding answered
-answered-none a = refl
-
-run-append : (a : After) (xs ys : List (List ℕ)) → run a (xs ++ ys) ≡ run (run a xs) ys
-unfolding run
-run-append a [] ys = refl
-run-append a (x ∷ xs) ys = run-append (next a x) xs ys
-
-answered-append : (a : After) (xs ys : List (List ℕ)) → answered a (xs ++ ys) ≡ answered a xs ++ answered (run a xs) ys
-unfolding answered run
-answered-append a [] ys = refl
-answered-append a (x ∷ xs) ys = ap (λ (l : List (List ℕ)). answeredBy x (next a x .told .answer) ∷ l) (answered-append (next a x) xs ys)
-
-run-one : (a : After) (e : List ℕ) → run a (e ∷ []) ≡ next a e
-unfolding run
-run-one a e = refl
-
-answered-one : (a : After) (e : List ℕ) → answered a (e ∷ []) ≡ answeredBy e (next a e .told .answer) ∷ []
-unfolding answered
-answered-one a e = refl
+answered-none a = goes .said-none a
 
 -- as many answers as events
 pub answered-long : (a : After) (es : List (List ℕ)) → length (answered a es) ≡ length es
-unfolding answered
-answered-long a [] = refl
-answered-long a (e ∷ es) = ap suc (answered-long (next a e) es)
+answered-long = said-long goes
 
 -- a line keeps its length
 pub run-long : (a : After) (es : List (List ℕ)) → length (run a es .line) ≡ length (a .line)
@@ -59,18 +45,12 @@ module _ (a : After) (es : List (List ℕ)) (i : ℕ) (h : i < length es) where
   e = getD es i []
 
   pub run-more : run a (take (i + 1) es) ≡ next now e
-  run-more = rw (add-one, take-suc es i [] h, run-append) (run-one now e)
+  run-more = along.run-more goes a es es refl i h
 
   -- the answer of event i is stored over it
   pub answered-more : set (answered a (take i es) ++ drop i es) i (answeredBy e (next now e .told .answer)) ≡ answered a (take (i + 1) es) ++ drop (i + 1) es
-  answered-more =
-      let k : length (answered a (take i es)) ≡ i = answered-long a (take i es) ∙ length-take-le i es (omega arith) in
-      rw (add-one, take-suc es i [] h, answered-append, answered-one, drop-cons es i [] h)
-      (set-at (answered a (take i es)) e (drop (suc i) es) (answeredBy e (next now e .told .answer)) i k
-      ∙ sym (append-snoc (answered a (take i es)) (answeredBy e (next now e .told .answer)) (drop (suc i) es)))
+  answered-more = along.said-more goes a es es refl i h
 
   -- event i is still as it was
   pub still : getD (answered a (take i es) ++ drop i es) i [] ≡ e
-  still =
-      let k : length (answered a (take i es)) ≡ i = answered-long a (take i es) ∙ length-take-le i es (omega arith) in
-      rw (drop-cons es i [] h) (getD-at (answered a (take i es)) e (drop (suc i) es) [] i k)
+  still = along.still goes a es es refl i h

@@ -19,18 +19,18 @@ use Rattle.sheet.proofs.Bytes.{Below}
 use Rattle.sheet.proofs.Rooms.{all-events, events-long}
 use Rattle.sheet.proofs.Tabs.{getD-tab}
 use Rattle.sheet.proofs.TripRead.{decoded-writable}
-use Rattle.sheet.proofs.TripWritten.{written-good}
+use Rattle.sheet.proofs.TripWritten.{good-one}
 use Rattle.sheet.proofs.Trips.{written-accepted, written-read, read-written}
 use Rattle.sheet.proofs.Writable.{Writable}
 use Rattle.sheet.specs.Entry.{numberOf, postOf, answerOf, stampOf}
-use Rattle.sheet.specs.Layout.{perBlock, unanswered, contentsWrong}
+use Rattle.sheet.specs.Layout.{perBlock, unanswered, contentsWrong, oneTrack}
 use Rattle.sheet.specs.Reading.{verdict, verdictOf, blocksIn, entriesIn, entryIn, decode}
 use Rattle.sheet.specs.Sheet.{Sheet, encode}
 use Rattle.working.proofs.Answers.{unanswered-before}
 use Rattle.working.proofs.Steps.{answered-long}
 use Rattle.working.proofs.Works.{fields-kept}
 use Rattle.working.specs.Run.{begun, next, run, answeredBy, answered}
-use Rattle.working.specs.Working.{firstAnswered, blank, setBack, worked, workVerdict}
+use Rattle.working.specs.Working.{firstAnswered, blank, setBack, worked, workVerdict, workVerdictUpTo}
 
 -- ---- events
 pub only-answers : (a : After) (es : List (List ℕ)) → blank (answered a es) ≡ blank es
@@ -72,7 +72,7 @@ module _ (s : List ℕ) (small : Below 256 s) (z : verdictOf s .number ≡ 0) wh
   said i h = rw (all-events s) (getD-tab (entryIn s) [] (entriesIn s) i (rw (events-long s) at h))
 
   readable : Writable (decode s)
-  readable = decoded-writable (blocksIn (length s)) s (accepted-good s z) small
+  readable = decoded-writable (blocksIn (length s)) s (accepted-good oneTrack s z) small
 
   -- the worked sheet can be written, so it reads back
   pub worked-writable : Writable (worked (decode s))
@@ -89,7 +89,7 @@ module _ (s : List ℕ) (small : Below 256 s) (z : verdictOf s .number ≡ 0) wh
       }
 
   pub same-length : length (encode (worked (decode s))) ≡ length s
-  same-length = written-good (worked (decode s)) worked-writable .long ∙ rw (answered-long b es) (sym (written-good (decode s) readable .long) ∙ ap (λ (l : List ℕ). length l) (read-written s small z))
+  same-length = good-one (worked (decode s)) worked-writable .long ∙ rw (answered-long b es) (sym (good-one (decode s) readable .long) ∙ ap (λ (l : List ℕ). length l) (read-written s small z))
 
   pub set-back : length es ≤ firstAnswered es → encode (setBack (worked (decode s))) ≡ s
   set-back fresh =
@@ -100,7 +100,7 @@ module _ (s : List ℕ) (small : Below 256 s) (z : verdictOf s .number ≡ 0) wh
       rw (only-answers b es, same) (read-written s small z)
 
   pub twice : 1 ≤ length es → (m : ℕ) → workVerdict (encode (worked (decode s))) m ≡ verdict contentsWrong 1
-  unfolding workVerdict
+  unfolding workVerdictUpTo
   twice h m =
       let t = worked (decode s) in
       let w = worked-writable in

@@ -18,13 +18,13 @@ use Rattle.sheet.proofs.Fields.{every}
 use Rattle.sheet.proofs.Packing.{unpacked-fields}
 use Rattle.sheet.proofs.Tabs.{getD-tab}
 use Rattle.sheet.specs.Entry.{numberOf, postOf, answerOf, stampOf, inFields}
-use Rattle.sheet.specs.Layout.{perBlock, contentsWrong, roomShort}
+use Rattle.sheet.specs.Layout.{perBlock, contentsWrong, roomShort, oneTrack}
 use Rattle.sheet.specs.Reading.{accepted, verdict, verdictOf, entriesIn, entryIn, decode}
 use Rattle.sheet.specs.Sheet.{Sheet, encode}
 use Rattle.sheet.specs.Writing.{allInFields, bytesFor, writeNumber, written, Writes}
 use Rattle.sheet.specs.declared.Verdict.{Verdict}
 use Rattle.working.specs.Run.{begun, next, run, answeredBy, answered}
-use Rattle.working.specs.Working.{firstAnswered, worked, refused, workVerdict, workOf, workedBytes, Works, ranOf, ranEvents}
+use Rattle.working.specs.Working.{firstAnswered, worked, refused, workVerdict, workVerdictUpTo, workOf, workedBytes, Works, ranOf, ranEvents}
 use Rattle.working.specs.declared.Worked.{Worked}
 use Rattle.working.proofs.Steps.{answered-long}
 
@@ -36,7 +36,7 @@ module _ (s : List ℕ) where
     refuse-with v e n = let h : eqb (v .number) 0 ≡ false = ne-eqb (v .number) 0 n in (rw (e, h), rw (e, h))
 
     pub works-unread : accepted s ≡ false → Works s (refused (verdictOf s)) out out
-    unfolding workVerdict
+    unfolding workVerdictUpTo
     works-unread h = refuse-with (verdictOf s) (rw h) (eqb-false (verdictOf s .number) 0 h)
 
     module _ (z : verdictOf s .number ≡ 0) where
@@ -44,17 +44,17 @@ module _ (s : List ℕ) where
       read = eq-eqb (verdictOf s .number) 0 z
 
       pub works-answered : firstAnswered (decode s .events) < length (decode s .events) → Works s (refused (verdict contentsWrong (1 + firstAnswered (decode s .events) / perBlock))) out out
-      unfolding workVerdict
+      unfolding workVerdictUpTo
       works-answered h = refuse-with _ (rw (read, lt-ltb _ _ h)) (λ e. omega arith)
 
       module _ (fresh : length (decode s .events) ≤ firstAnswered (decode s .events)) where
         pub works-short : length out < length s → Works s (refused (verdict roomShort 0)) out out
-        unfolding workVerdict
+        unfolding workVerdictUpTo
         works-short h = refuse-with _ (rw (read, le-ltb _ _ fresh, lt-leb _ _ h)) (λ e. omega arith)
 
         module _ (h : length s ≤ length out) where
           taken : workVerdict s (length out) ≡ verdict 0 0
-          unfolding workVerdict
+          unfolding workVerdictUpTo
           taken = rw (read, le-ltb _ _ fresh, le-leb _ _ h)
 
           abbrev b : After
@@ -96,13 +96,13 @@ module _ (s : List ℕ) (z : verdictOf s .number ≡ 0) where
   writes-worked r out out′ h w =
       let t = worked (decode s) in
       let n : length (t .events) ≡ entriesIn s = answered-long _ (decode s .events) ∙ events-long s in
-      let size : bytesFor (length (t .events)) ≡ length s = ap bytesFor n ∙ bytes-are s z in
+      let size : bytesFor (length (t .events)) ≡ length s = ap bytesFor n ∙ bytes-are oneTrack s z in
       let table : tableOk (t .kinds) ≡ true = said-table s z in
       w .1
       ∙ rw (
         table,
         fields-kept (begun (decode s .kinds) (decode s .stamp)) (decode s .events) said-fields,
-        le-leb (length (t .events)) 3780 (omega (arith, n, entries-few s z)),
+        le-leb (length (t .events)) 3780 (omega (arith, n, entries-few oneTrack s z)),
         le-leb (bytesFor (length (t .events))) (length out) (omega (arith, size)),
         size,
       )

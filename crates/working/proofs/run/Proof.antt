@@ -13,7 +13,8 @@ use Rattle.row.specs.Row.{rowOf, stood}
 use Rattle.row.specs.declared.Stood.{Stood}
 use Rattle.working.specs.Run.{begun, next, run, answered}
 use Rattle.working.specs.Working.{ranOf, ranEvents}
-use Rattle.working.proofs.Begins.{Begun, begins, Refused, refuses, row-next}
+use Rattle.row.proofs.Starts.{begins, refuses}
+use Rattle.working.proofs.Begins.{row-next}
 use Rattle.working.proofs.Steps.{run-none, answered-none, run-more, answered-more, still}
 use Rattle.working.proofs.run.Statement.{statement}
 use Rattle.working.proofs.run.Tie as tie
