@@ -3,6 +3,7 @@
 use crate::desk::{reply, Model};
 use crate::random::Random;
 use crate::request::{Reply, Request};
+use crate::tracks::request::TrackRequest;
 use crate::variety::Variety;
 use crate::{
     checks, full, histories, long_texts, misprints, questions, rooms, rows, spoiled, starts, texts,
@@ -21,6 +22,30 @@ enum Maker {
     Numbered(fn(&mut Random, usize) -> Request),
 }
 
+impl Sort {
+    /// Its varieties have each a name and a maker.
+    pub fn each(name: &'static str, varieties: &'static [Variety]) -> Sort {
+        Sort {
+            name,
+            varieties: varieties.iter().map(|v| v.0.to_string()).collect(),
+            make: Maker::Each(varieties),
+        }
+    }
+
+    /// Its varieties have names, and one maker that is given their numbers.
+    pub fn numbered(
+        name: &'static str,
+        varieties: Vec<String>,
+        make: fn(&mut Random, usize) -> Request,
+    ) -> Sort {
+        Sort {
+            name,
+            varieties,
+            make: Maker::Numbered(make),
+        }
+    }
+}
+
 /// One call, or one history of calls, and what the model replies.
 pub struct Case {
     pub sort: usize,
@@ -35,6 +60,7 @@ impl Case {
     pub fn weight(&self) -> u64 {
         match &self.request {
             Request::Run { steps, .. } => steps.len() as u64,
+            Request::Tracks(TrackRequest::Run { steps, .. }) => steps.len() as u64,
             _ => 1,
         }
     }
@@ -56,16 +82,7 @@ pub const FIELDS: &str = "fields";
 
 /// All sorts, in the order in which they take turns.
 pub fn sorts() -> Vec<Sort> {
-    let each = |name, varieties: &'static [Variety]| Sort {
-        name,
-        varieties: varieties.iter().map(|v| v.0.to_string()).collect(),
-        make: Maker::Each(varieties),
-    };
-    let numbered = |name, varieties, make| Sort {
-        name,
-        varieties,
-        make: Maker::Numbered(make),
-    };
+    let (each, numbered) = (Sort::each, Sort::numbered);
     vec![
         each("lively-histories", histories::LIVELY),
         each("wild-histories", histories::WILD),

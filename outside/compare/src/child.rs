@@ -7,7 +7,7 @@ use std::thread;
 use std::time::Duration;
 
 use crate::desk::Library;
-use crate::request::{Reply, Request, RECORDS_AT};
+use crate::request::{Reply, Request};
 
 /// No line has more records than this; a reply that says so is not read on.
 const MOST_RECORDS: u32 = 64;
@@ -139,7 +139,7 @@ fn send(stdin: &mut ChildStdin, requests: &[Request]) -> io::Result<()> {
 fn receive(stdout: &mut impl Read, request: &Request) -> io::Result<Reply> {
     let mut reply = Vec::new();
     read_words(stdout, request.reply_front(), &mut reply)?;
-    if matches!(request, Request::Work { .. }) && reply[RECORDS_AT] > MOST_RECORDS {
+    if request.said_records(&reply) > MOST_RECORDS {
         return Err(io::ErrorKind::InvalidData.into());
     }
     let rest = request.reply_len(&reply) - reply.len();

@@ -1,5 +1,8 @@
 //! The kinds of sheets to read and to work: good, answered, damaged.
 
+// A damage is given the vector, since some of them cut or lengthen the sheet.
+#![allow(clippy::ptr_arg)]
+
 use model::{BLOCK_BYTES, CHECK, EVENTS_PER_BLOCK};
 
 use crate::histories::{early_event, some_posts, stuck_event, Next};
@@ -21,16 +24,22 @@ pub const KINDS: &[Kind] = &[
     ("partly answered", partly_answered),
     ("answered in any block", answered_in_any_block),
     ("any answers", any_answers),
-    ("fewer blocks", fewer_blocks),
-    ("cut", cut),
+    ("fewer blocks", |random| damaged(random, 61, fewer_blocks)),
+    ("cut", |random| damaged(random, 0, cut)),
     ("lengthened by zeros", lengthened_by_zeros),
     ("lengthened by an empty block", lengthened_by_empty),
-    ("lengthened by some bytes", lengthened_by_bytes),
-    ("one bit flipped", bit_flipped),
-    ("moved between words", moved_between_words),
-    ("two blocks swapped", blocks_swapped),
-    ("word 0 of the table", |random| table_word(random, 0)),
-    ("N wrong", |random| table_word(random, 1)),
+    ("lengthened by some bytes", |random| {
+        damaged(random, 0, lengthened_by_bytes)
+    }),
+    ("one bit flipped", |random| damaged(random, 0, bit_flipped)),
+    ("moved between words", |random| {
+        damaged(random, 0, moved_between_words)
+    }),
+    ("two blocks swapped", |random| {
+        damaged(random, 61, blocks_swapped)
+    }),
+    ("word 0 of the table", |random| damaged(random, 0, word_0)),
+    ("N wrong", |random| damaged(random, 0, word_1)),
     ("N of 33 and more", table_too_long),
     ("any number for the first kind", |random| {
         number_for(random, Place::First)
@@ -42,39 +51,48 @@ pub const KINDS: &[Kind] = &[
         number_for(random, Place::Last)
     }),
     ("filler of the table", table_filler),
-    ("m of 0", |random| {
-        one_block(random, 1, |random, b| set_m(random, b, &[0]))
-    }),
+    ("m of 0", |random| damaged(random, 1, no_events)),
     ("m of 61 and more", |random| {
-        let wrong = [61, 61, 62, 63, 64, 127, 128, 1 << 31, u32::MAX];
         let least = random.pick(&[1, 60]);
-        let mut bytes = some(random, least).bytes();
-        let at = later_block(random, &bytes);
-        put(&mut bytes, at, 0, random.pick(&wrong));
-        renewed(bytes, at)
+        damaged(random, least, too_many_events)
     }),
-    ("m below 60 in the middle", middle_short),
+    ("m below 60 in the middle", |random| {
+        damaged(random, 61, middle_short)
+    }),
     ("upper bits of an event", |random| {
-        one_block(random, 1, upper_bits)
+        damaged(random, 1, |random, bytes| {
+            one_block(random, bytes, 1, upper_bits)
+        })
     }),
     ("upper bits, and what else is wrong", some_bad),
     ("filler of a later block", |random| {
-        one_block(random, 1, later_filler)
+        damaged(random, 1, later_filler)
     }),
     ("any words, right check", |random| {
-        one_block(random, 0, any_words)
+        damaged(random, 0, any_words)
     }),
-    ("wrong check", wrong_check),
-    ("check without the block", check_without_block),
+    ("wrong check", |random| damaged(random, 0, wrong_check)),
+    ("check without the block", |random| {
+        damaged(random, 1, check_without_block)
+    }),
     ("check and contents wrong", |random| {
-        let mut bytes = some(random, 0).bytes();
-        let at = random.below(blocks(&bytes));
-        break_contents(random, &mut bytes, at);
-        bytes
+        damaged(random, 0, check_and_contents)
     }),
-    ("several bad blocks", several_bad),
+    ("several bad blocks", |random| {
+        damaged(random, 61, several_bad)
+    }),
     ("any bytes of some length", any_bytes),
 ];
+
+/// What is done to the bytes of a good sheet, of whatever form.
+pub type Damage = fn(&mut Random, &mut Vec<u8>);
+
+/// A good sheet of at least so many events, damaged.
+fn damaged(random: &mut Random, least: usize, damage: Damage) -> Vec<u8> {
+    let mut bytes = some(random, least).bytes();
+    damage(random, &mut bytes);
+    bytes
+}
 
 /// "Event numbers, posts, stamps and answers of any value that fits its field may
 /// stand in a sheet."
@@ -132,19 +150,15 @@ fn any_answers(random: &mut Random) -> Vec<u8> {
 }
 
 /// Cut after a block that holds 60 events, so that the sheet is still good.
-fn fewer_blocks(random: &mut Random) -> Vec<u8> {
-    let mut bytes = some(random, 61).bytes();
-    let kept = random.between(1, blocks(&bytes) - 1);
+pub fn fewer_blocks(random: &mut Random, bytes: &mut Vec<u8>) {
+    let kept = random.between(1, blocks(bytes) - 1);
     bytes.truncate(kept * BLOCK_BYTES);
-    bytes
 }
 
-fn cut(random: &mut Random) -> Vec<u8> {
-    let mut bytes = some(random, 0).bytes();
+pub fn cut(random: &mut Random, bytes: &mut Vec<u8>) {
     let length = bytes.len();
     let anywhere = random.below(length);
     bytes.truncate(random.pick(&[0, 511, length - 1, length - 4, anywhere]));
-    bytes
 }
 
 /// A last block that holds 60 leaves nothing wrong but the block added.
@@ -170,47 +184,46 @@ fn lengthened_by_empty(random: &mut Random) -> Vec<u8> {
     bytes
 }
 
-fn lengthened_by_bytes(random: &mut Random) -> Vec<u8> {
-    let mut bytes = some(random, 0).bytes();
+pub fn lengthened_by_bytes(random: &mut Random, bytes: &mut Vec<u8>) {
     let more = random.pick(&[1, 1, 2, 4, 511, 513]);
     bytes.resize(bytes.len() + more, 0);
-    bytes
 }
 
-fn bit_flipped(random: &mut Random) -> Vec<u8> {
-    let mut bytes = some(random, 0).bytes();
+pub fn bit_flipped(random: &mut Random, bytes: &mut Vec<u8>) {
     let at = random.below(bytes.len());
     bytes[at] ^= 1 << random.below(8);
-    bytes
 }
 
 /// The sum stays right: what one word gains another of its block loses.
-fn moved_between_words(random: &mut Random) -> Vec<u8> {
-    let mut bytes = some(random, 0).bytes();
-    let at = random.below(blocks(&bytes));
+pub fn moved_between_words(random: &mut Random, bytes: &mut Vec<u8>) {
+    let at = random.below(blocks(bytes));
     let by = random.pick(&[1, 2, 32, 1 << 11, 1 << 16, u32::MAX]);
     let (one, other) = (random.below(128), random.below(128));
-    let gained = get(&bytes, at, one).wrapping_add(by);
-    put(&mut bytes, at, one, gained);
-    let lost = get(&bytes, at, other).wrapping_sub(by);
-    put(&mut bytes, at, other, lost);
-    bytes
+    let gained = get(bytes, at, one).wrapping_add(by);
+    put(bytes, at, one, gained);
+    let lost = get(bytes, at, other).wrapping_sub(by);
+    put(bytes, at, other, lost);
 }
 
-fn blocks_swapped(random: &mut Random) -> Vec<u8> {
-    let mut bytes = some(random, 61).bytes();
-    let count = blocks(&bytes);
+pub fn blocks_swapped(random: &mut Random, bytes: &mut Vec<u8>) {
+    let count = blocks(bytes);
     let one = random.below(count - 1);
     let other = random.between(one + 1, count - 1);
     let (front, back) = bytes.split_at_mut(other * BLOCK_BYTES);
     front[one * BLOCK_BYTES..][..BLOCK_BYTES].swap_with_slice(&mut back[..BLOCK_BYTES]);
-    bytes
+}
+
+pub fn word_0(random: &mut Random, bytes: &mut Vec<u8>) {
+    table_word(random, bytes, 0);
+}
+
+pub fn word_1(random: &mut Random, bytes: &mut Vec<u8>) {
+    table_word(random, bytes, 1);
 }
 
 /// Word 0 or word 1 of block 0 wrong under a right check.
-fn table_word(random: &mut Random, word: usize) -> Vec<u8> {
-    let mut bytes = some(random, 0).bytes();
-    let right = get(&bytes, 0, word);
+fn table_word(random: &mut Random, bytes: &mut [u8], word: usize) {
+    let right = get(bytes, 0, word);
     let near = right.wrapping_add(random.pick(&[1, u32::MAX]));
     let far = [0, 1, 33, 64, 123, 124, 125, 126, 1 << 31, u32::MAX];
     let wrong = if random.chance(40) {
@@ -218,8 +231,8 @@ fn table_word(random: &mut Random, word: usize) -> Vec<u8> {
     } else {
         random.pick(&far)
     };
-    put(&mut bytes, 0, word, wrong);
-    renewed(bytes, 0)
+    put(bytes, 0, word, wrong);
+    renew(bytes, 0);
 }
 
 /// A table that would be right if it were not so long.
@@ -262,16 +275,19 @@ fn table_filler(random: &mut Random) -> Vec<u8> {
 type BlockChange = fn(&mut Random, &mut [u32]);
 
 /// One block (a later one if `first` is 1) changed under a right check.
-fn one_block(random: &mut Random, first: usize, change: BlockChange) -> Vec<u8> {
-    let mut bytes = some(random, first).bytes();
-    let at = random.between(first, blocks(&bytes) - 1);
+fn one_block(random: &mut Random, bytes: &mut [u8], first: usize, change: BlockChange) {
+    let at = random.between(first, blocks(bytes) - 1);
     let range = at * BLOCK_BYTES..(at + 1) * BLOCK_BYTES;
     let mut words = padded(&bytes[range]);
     change(random, &mut words);
     for (word, value) in words.iter().enumerate() {
-        put(&mut bytes, at, word, *value);
+        put(bytes, at, word, *value);
     }
-    renewed(bytes, at)
+    renew(bytes, at);
+}
+
+pub fn no_events(random: &mut Random, bytes: &mut Vec<u8>) {
+    one_block(random, bytes, 1, |random, block| set_m(random, block, &[0]));
 }
 
 fn set_m(random: &mut Random, block: &mut [u32], list: &[u32]) {
@@ -282,17 +298,23 @@ fn set_m(random: &mut Random, block: &mut [u32], list: &[u32]) {
     }
 }
 
+pub fn too_many_events(random: &mut Random, bytes: &mut Vec<u8>) {
+    let wrong = [61, 61, 62, 63, 64, 127, 128, 1 << 31, u32::MAX];
+    let at = random.between(1, blocks(bytes) - 1);
+    put(bytes, at, 0, random.pick(&wrong));
+    renew(bytes, at);
+}
+
 /// A middle block of fewer than 60, right in all else.
-fn middle_short(random: &mut Random) -> Vec<u8> {
-    let mut bytes = some(random, 61).bytes();
-    let at = random.between(1, blocks(&bytes) - 2);
+pub fn middle_short(random: &mut Random, bytes: &mut Vec<u8>) {
+    let at = random.between(1, blocks(bytes) - 2);
     let anywhere = random.small(1, 59);
     let m = random.pick(&[1, 59, anywhere]);
-    put(&mut bytes, at, 0, m);
+    put(bytes, at, 0, m);
     for word in 1 + 2 * m as usize..127 {
-        put(&mut bytes, at, word, 0);
+        put(bytes, at, word, 0);
     }
-    renewed(bytes, at)
+    renew(bytes, at);
 }
 
 fn upper_bits(random: &mut Random, block: &mut [u32]) {
@@ -300,39 +322,44 @@ fn upper_bits(random: &mut Random, block: &mut [u32]) {
     block[1 + 2 * event] |= 1 << random.between(16, 31);
 }
 
-fn later_filler(random: &mut Random, block: &mut [u32]) {
-    let first = 1 + 2 * block[0] as usize;
-    let anywhere = random.between(first, 126);
-    block[random.pick(&[first, 126, anywhere])] = filler(random);
+pub fn later_filler(random: &mut Random, bytes: &mut Vec<u8>) {
+    one_block(random, bytes, 1, |random, block| {
+        let first = 1 + 2 * block[0] as usize;
+        let anywhere = random.between(first, 126);
+        block[random.pick(&[first, 126, anywhere])] = filler(random);
+    });
 }
 
-fn any_words(random: &mut Random, block: &mut [u32]) {
-    for word in block {
-        if random.chance(50) {
-            *word = random.edge_word();
+pub fn any_words(random: &mut Random, bytes: &mut Vec<u8>) {
+    one_block(random, bytes, 0, |random, block| {
+        for word in block {
+            if random.chance(50) {
+                *word = random.edge_word();
+            }
         }
-    }
+    });
+}
+
+pub fn check_and_contents(random: &mut Random, bytes: &mut Vec<u8>) {
+    let at = random.below(blocks(bytes));
+    break_contents(random, bytes, at);
 }
 
 pub fn filler(random: &mut Random) -> u32 {
     random.pick(&[1, 31 << 11, 1 << 16, 1 << 31, u32::MAX])
 }
 
-fn wrong_check(random: &mut Random) -> Vec<u8> {
-    let mut bytes = some(random, 0).bytes();
-    let at = random.below(blocks(&bytes));
-    break_check(random, &mut bytes, at);
-    bytes
+pub fn wrong_check(random: &mut Random, bytes: &mut Vec<u8>) {
+    let at = random.below(blocks(bytes));
+    break_check(random, bytes, at);
 }
 
 /// Every block sums to 317944, as if its number did not matter.
-fn check_without_block(random: &mut Random) -> Vec<u8> {
-    let mut bytes = some(random, 1).bytes();
-    for at in 1..blocks(&bytes) {
-        let without = get(&bytes, at, 127).wrapping_sub(at as u32);
-        put(&mut bytes, at, 127, without);
+pub fn check_without_block(_: &mut Random, bytes: &mut Vec<u8>) {
+    for at in 1..blocks(bytes) {
+        let without = get(bytes, at, 127).wrapping_sub(at as u32);
+        put(bytes, at, 127, without);
     }
-    bytes
 }
 
 pub fn break_check(random: &mut Random, bytes: &mut [u8], at: usize) {
@@ -359,21 +386,19 @@ pub fn break_field(random: &mut Random, bytes: &mut [u8], at: usize) {
 }
 
 /// Two or three blocks wrong, each in its check, its contents or both.
-fn several_bad(random: &mut Random) -> Vec<u8> {
-    let mut bytes = some(random, 61).bytes();
+pub fn several_bad(random: &mut Random, bytes: &mut Vec<u8>) {
     for _ in 0..random.between(2, 3) {
-        let at = random.below(blocks(&bytes));
+        let at = random.below(blocks(bytes));
         match random.below(4) {
-            0 => break_check(random, &mut bytes, at),
-            1 => break_contents(random, &mut bytes, at),
-            2 => break_field(random, &mut bytes, at),
+            0 => break_check(random, bytes, at),
+            1 => break_contents(random, bytes, at),
+            2 => break_field(random, bytes, at),
             _ => {
-                break_contents(random, &mut bytes, at);
-                renew(&mut bytes, at);
+                break_contents(random, bytes, at);
+                renew(bytes, at);
             }
         }
     }
-    bytes
 }
 
 fn any_bytes(random: &mut Random) -> Vec<u8> {
@@ -382,8 +407,4 @@ fn any_bytes(random: &mut Random) -> Vec<u8> {
         return vec![0; length];
     }
     (0..length).map(|_| random.word() as u8).collect()
-}
-
-fn later_block(random: &mut Random, bytes: &[u8]) -> usize {
-    random.between(1, blocks(bytes) - 1)
 }

@@ -50,10 +50,11 @@ const IMPORTED: &[&str] = &[
     "bytes, upper word",
 ];
 
+pub const TOLD: &[&str] = &["answer", "events taken", "last stamp"];
+
 impl Request {
     /// What the word at this place of the reply is.
     pub fn name_of(&self, reply: &[u32], at: usize) -> String {
-        const TOLD: &[&str] = &["answer", "events taken", "last stamp"];
         match self {
             Request::Valid { .. } => named(&["valid"], at, record_word),
             Request::Start { .. } | Request::Event { .. } => named(TOLD, at, record_word),
@@ -72,6 +73,7 @@ impl Request {
             Request::Export { .. } => named(EXPORTED, at, out_bytes),
             Request::Import { .. } => named(IMPORTED, at, out_bytes),
             Request::Check { .. } => named(&["checks"], at, block_word),
+            Request::Tracks(request) => request.name_of(reply, at),
             Request::Run { kinds, steps, .. } => {
                 let (turn, rest) = split(at, 3 + kinds.len() * POST_WORDS);
                 let name = named(TOLD, rest, record_word);
@@ -105,6 +107,7 @@ impl Request {
                     steps.len()
                 )
             }
+            Request::Tracks(request) => request.short(),
             _ => self.sheet_short(),
         }
     }
@@ -162,18 +165,18 @@ fn text_start(text: &[u8]) -> String {
         .collect()
 }
 
-fn split(at: usize, size: usize) -> (usize, usize) {
+pub fn split(at: usize, size: usize) -> (usize, usize) {
     (at / size, at % size)
 }
 
-fn named(front: &[&str], at: usize, rest: impl Fn(usize) -> String) -> String {
+pub fn named(front: &[&str], at: usize, rest: impl Fn(usize) -> String) -> String {
     match front.get(at) {
         Some(name) => (*name).to_string(),
         None => rest(at - front.len()),
     }
 }
 
-fn record_word(at: usize) -> String {
+pub fn record_word(at: usize) -> String {
     let (post, field) = split(at, POST_WORDS);
     format!("{} of post {post}", FIELDS[field])
 }
@@ -189,7 +192,7 @@ fn read_word(kinds_room: usize, at: usize) -> String {
     }
 }
 
-fn out_bytes(at: usize) -> String {
+pub fn out_bytes(at: usize) -> String {
     format!("output bytes {} to {}", 4 * at, 4 * at + 3)
 }
 
@@ -197,7 +200,7 @@ fn block_word(at: usize) -> String {
     format!("word {at} of the block")
 }
 
-fn row_text(row: &[Post]) -> String {
+pub fn row_text(row: &[Post]) -> String {
     let line = |post: &Post| format!("\n    {:?}", post_words(post));
     row.iter().map(line).collect()
 }

@@ -1,8 +1,15 @@
 //! A library that answers requests, and the desk's calls behind it.
 
-use model::{Entry, Exported, Found, Head, Imported, Post, Since, Told, Verdict, Worked};
+use model::{
+    Entry, Exported, Found, FoundTracks, Head, Imported, Post, Since, Told, TrackStep, Verdict,
+    Worked, WorkedTracks,
+};
 
 use crate::request::{padded, post_words, row_words, Reply, Request};
+use crate::tracks;
+use crate::tracks::request::{Rooms, Rows, Tables};
+use crate::tracks::sheets::TrackSheet;
+use crate::tracks::two::Two;
 
 /// Whatever answers requests in order: a child process, or a desk in this one.
 pub trait Library {
@@ -56,6 +63,41 @@ pub trait Desk {
     fn check(&mut self, block: &mut [u8], number: u32) -> bool {
         model::check(block, number)
     }
+
+    fn start_tracks(&mut self, rows: &mut Rows, tables: &Tables, at: [u32; 2]) -> Told {
+        let ([first, second], [circuit, stamp]) = (rows, at);
+        let tables = [&tables[0][..], &tables[1]];
+        model::start_tracks([first, second], tables, circuit, stamp)
+    }
+
+    fn valid_tracks(&mut self, two: &Two) -> bool {
+        two.is_valid()
+    }
+
+    /// Both rows are lent; the head after it is what is told.
+    fn event_tracks(&mut self, two: &mut Two, step: TrackStep) -> Told {
+        two.told(step)
+    }
+
+    fn test_tracks(&mut self, sheet: &[u8]) -> Verdict {
+        model::test_tracks(sheet)
+    }
+
+    fn read_tracks(&mut self, sheet: &[u8], rooms: Rooms) -> FoundTracks {
+        model::read_tracks(sheet, rooms.table, rooms.events, rooms.tracks)
+    }
+
+    fn write_tracks(&mut self, sheet: &TrackSheet, out: &mut [u8]) -> u32 {
+        sheet.write(out)
+    }
+
+    fn work_tracks(&mut self, sheet: &[u8], out: &mut [u8]) -> WorkedTracks {
+        model::work_tracks(sheet, out)
+    }
+
+    fn why_tracks(&mut self, sheet: &[u8], position: u32) -> Since {
+        model::why_tracks(sheet, position)
+    }
 }
 
 /// The model as it stands.
@@ -98,6 +140,7 @@ pub fn reply(desk: &mut dyn Desk, request: &Request) -> Reply {
             stamp,
             steps,
         } => run(desk, kinds, *stamp, steps),
+        Request::Tracks(request) => tracks::reply::reply(desk, request),
         _ => sheet_reply(desk, request),
     }
 }

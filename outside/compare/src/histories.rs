@@ -53,7 +53,7 @@ pub const TURN: &[Variety] = &[
 ];
 
 /// Differences of stamps on both sides of where "behind" begins.
-const DIFFERENCES: [u32; 6] = [0, 1, 0x7FFF_FFFF, 0x8000_0000, 0x8000_0001, 0xFFFF_FFFF];
+pub const DIFFERENCES: [u32; 6] = [0, 1, 0x7FFF_FFFF, 0x8000_0000, 0x8000_0001, 0xFFFF_FFFF];
 
 /// How often each event is tried: arrivals and announcements keep a line moving.
 const TRIED: [u32; 24] = [

@@ -41,6 +41,7 @@ pub mod strikes;
 pub mod tables;
 pub mod tally;
 pub mod texts;
+pub mod tracks;
 pub mod upper_bits;
 pub mod variety;
 pub mod words;

@@ -23,10 +23,10 @@ use crate::words::{check_pipes, check_wrong_words, why_cases, work_cases};
 const SMALL: usize = 4 * BLOCK_BYTES;
 
 /// A run of the program: what sort of input it has, its words and the input.
-struct Asked {
-    name: String,
-    words: Vec<String>,
-    input: Vec<u8>,
+pub struct Asked {
+    pub name: String,
+    pub words: Vec<String>,
+    pub input: Vec<u8>,
 }
 
 /// A sort of random runs: its name, its number, how many there are for so many sheets,
@@ -77,7 +77,7 @@ const SORTS: [Sort; 6] = [
     },
 ];
 
-fn asked_of(name: impl ToString, words: &[&str], input: Vec<u8>) -> Asked {
+pub fn asked_of(name: impl ToString, words: &[&str], input: Vec<u8>) -> Asked {
     Asked {
         name: name.to_string(),
         words: words.iter().map(|word| word.to_string()).collect(),

@@ -2,6 +2,8 @@
 
 use model::{Entry, Head, Post};
 
+use crate::tracks::request::TrackRequest;
+
 /// A reply's words, whole: answer, head, every record, every byte of a room.
 pub type Reply = Vec<u32>;
 
@@ -70,6 +72,8 @@ pub enum Request {
         block: Vec<u8>,
         number: u32,
     },
+    /// A call of two tracks.
+    Tracks(TrackRequest),
 }
 
 impl Request {
@@ -97,6 +101,7 @@ impl Request {
                 let front = [7, size(kinds.len()), *stamp, size(steps.len())];
                 joined(&front, &[kinds, &steps.concat()])
             }
+            Request::Tracks(request) => request.words(),
             _ => self.sheet_words(),
         }
     }
@@ -163,7 +168,17 @@ impl Request {
     pub fn reply_front(&self) -> usize {
         match self {
             Request::Work { .. } => 6,
+            Request::Tracks(request) => request.reply_front(),
             _ => 1,
+        }
+    }
+
+    /// How many records a reply's front says that follow, where it says so.
+    pub fn said_records(&self, front: &[u32]) -> u32 {
+        match self {
+            Request::Work { .. } => front[RECORDS_AT],
+            Request::Tracks(request) => request.said_records(front),
+            _ => 0,
         }
     }
 
@@ -187,11 +202,12 @@ impl Request {
                 5 + out_len.div_ceil(4)
             }
             Request::Check { block, .. } => 1 + block.len().div_ceil(4),
+            Request::Tracks(request) => request.reply_len(front),
         }
     }
 }
 
-fn joined(front: &[u32], parts: &[&[u32]]) -> Vec<u32> {
+pub fn joined(front: &[u32], parts: &[&[u32]]) -> Vec<u32> {
     let mut words = front.to_vec();
     for part in parts {
         words.extend_from_slice(part);

@@ -43,6 +43,7 @@ impl Batch {
             Request::Import { text, .. } => text.len() / 4,
             Request::Check { block, .. } => block.len() / 4,
             Request::Write { events, .. } => 4 * events.len(),
+            Request::Tracks(request) => request.own_words(),
             _ => 0,
         };
         self.words += case.expected.len() + of_request;
@@ -79,9 +80,22 @@ pub fn compare_sorts(
     for (share, sort) in shares.iter_mut().zip(sorts) {
         *share *= u64::from(names.contains(&sort.name));
     }
+    let tally = Tally::new(sorts);
+    compare_shares(sorts, seed, &shares, library, tally, Tally::add)
+}
+
+/// The same on so many of each sort, and every case is added to the tally.
+pub fn compare_shares<T: Send>(
+    sorts: &[Sort],
+    seed: u64,
+    shares: &[u64],
+    library: &mut dyn Library,
+    tally: T,
+    add: fn(&mut T, &[Sort], &Case),
+) -> Result<T, Difference> {
     thread::scope(|scope| {
         let (sender, batches) = sync_channel(2);
-        let maker = scope.spawn(move || make_batches(sorts, seed, &shares, &sender));
+        let maker = scope.spawn(move || make_batches(sorts, seed, shares, &sender, tally, add));
         for batch in batches {
             // Returning drops the receiver, and the maker's next batch ends it.
             check(sorts, &batch, library)?;
@@ -90,11 +104,17 @@ pub fn compare_sorts(
     })
 }
 
-fn make_batches(sorts: &[Sort], seed: u64, shares: &[u64], sender: &SyncSender<Batch>) -> Tally {
-    let mut tally = Tally::new(sorts);
+fn make_batches<T>(
+    sorts: &[Sort],
+    seed: u64,
+    shares: &[u64],
+    sender: &SyncSender<Batch>,
+    mut tally: T,
+    add: fn(&mut T, &[Sort], &Case),
+) -> T {
     let mut batch = Batch::default();
     each_case(sorts, seed, shares, &mut |case| {
-        tally.add(sorts, &case);
+        add(&mut tally, sorts, &case);
         batch.push(case);
         if batch.words < BATCH_WORDS {
             return true;

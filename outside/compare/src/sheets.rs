@@ -50,7 +50,7 @@ impl Sheet {
 }
 
 /// Mostly few events; often just as many as fill a block.
-fn some_count(random: &mut Random) -> usize {
+pub fn some_count(random: &mut Random) -> usize {
     match random.below(100) {
         0..=9 => 0,
         10..=49 => random.between(1, 10),

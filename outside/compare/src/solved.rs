@@ -73,6 +73,11 @@ fn solve_counts(random: &mut Random, row: &mut [Post], most: u32) {
 /// A line of right relays, altered, whose counts then follow from its relays.
 pub fn solved(random: &mut Random, change: Alteration) -> Play {
     let posts = some_posts(random);
+    solved_of(random, posts, change)
+}
+
+/// The same of so many posts.
+pub fn solved_of(random: &mut Random, posts: usize, change: Alteration) -> Play {
     let kinds = table(random, posts);
     let mut play = Play::from_start(&kinds, random.edge_word());
     play.row.iter_mut().for_each(|post| post.word = 0);

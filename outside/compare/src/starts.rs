@@ -74,15 +74,19 @@ fn one_kind(random: &mut Random, kind: u32) -> Request {
     start(random, kinds, posts)
 }
 
-/// The row is lent with any words in it, so that what stays can be seen.
 fn start(random: &mut Random, kinds: Vec<u32>, row: usize) -> Request {
-    let row: Vec<Post> = (0..row)
+    let row = lent(random, row);
+    let stamp = random.edge_word();
+    Request::Start { row, kinds, stamp }
+}
+
+/// The row is lent with any words in it, so that what stays can be seen.
+pub fn lent(random: &mut Random, records: usize) -> Vec<Post> {
+    (0..records)
         .map(|_| {
             let mut words = [0; POST_WORDS];
             words.fill_with(|| random.word());
             post_of(&words)
         })
-        .collect();
-    let stamp = random.edge_word();
-    Request::Start { row, kinds, stamp }
+        .collect()
 }

@@ -25,8 +25,8 @@ pub fn bad_field(random: &mut Random, variety: usize) -> Request {
     let call = CALLS[variety % CALLS.len()];
     // To be worked, a sheet is not answered; to be asked about, it is.
     let answered = call == "why" || (call != "work" && random.chance(50));
-    let spoiled = spoiled(random, variety / CALLS.len(), answered);
-    let at = (spoiled.block - 1) * EVENTS_PER_BLOCK + spoiled.position + 1;
+    let spoiled = spoiled(random, variety / CALLS.len(), answered, one_track);
+    let at = spoiled.in_sheet();
     let sheet = spoiled.sealed(random);
     match call {
         "read" => read_of(random, sheet),
@@ -40,6 +40,23 @@ pub fn bad_field(random: &mut Random, variety: usize) -> Request {
     }
 }
 
+/// A good sheet of so many posts and events, answered or not.
+pub type Made = fn(&mut Random, usize, usize, bool) -> Vec<u8>;
+
+fn one_track(random: &mut Random, posts: usize, count: usize, answered: bool) -> Vec<u8> {
+    let sheet = lively_sheet(random, posts, count);
+    let sheet = if answered { sheet.worked() } else { sheet };
+    sheet.bytes()
+}
+
+/// Upper bits in this position of some block of such a sheet, and which event of the sheet that
+/// is, from 1.
+pub fn bad_of(random: &mut Random, position: usize, answered: bool, made: Made) -> (Vec<u8>, u32) {
+    let spoiled = spoiled(random, position, answered, made);
+    let at = spoiled.in_sheet();
+    (spoiled.sealed(random), at as u32)
+}
+
 /// A sheet with such a word in any place, answered or not.
 pub fn some_bad(random: &mut Random) -> Vec<u8> {
     let (position, answered) = (random.below(EVENTS_PER_BLOCK), random.chance(30));
@@ -48,13 +65,13 @@ pub fn some_bad(random: &mut Random) -> Vec<u8> {
 
 /// The same in this position of some block.
 pub fn bad_at(random: &mut Random, position: usize, answered: bool) -> Vec<u8> {
-    spoiled(random, position, answered).sealed(random)
+    bad_of(random, position, answered, one_track).0
 }
 
 /// The same, and this wrong beside it.
 pub fn bad_beside(random: &mut Random, position: usize, beside: &Beside) -> Vec<u8> {
     let (_, place, spoil) = beside;
-    let mut spoiled = placed(random, *place, position, false);
+    let mut spoiled = placed(random, *place, position, (false, one_track));
     spoil(random, &mut spoiled);
     spoiled.sealed(random)
 }
@@ -185,12 +202,13 @@ pub const BESIDE: &[Beside] = &[
 ];
 
 /// Upper bits in this position of some block, and often something else wrong, or two things.
-fn spoiled(random: &mut Random, position: usize, answered: bool) -> Spoiled {
+fn spoiled(random: &mut Random, position: usize, answered: bool, made: Made) -> Spoiled {
+    let made = (answered, made);
     if random.chance(25) {
-        return placed(random, Where::Any, position, answered);
+        return placed(random, Where::Any, position, made);
     }
     let (_, place, spoil) = random.pick(BESIDE);
-    let mut spoiled = placed(random, place, position, answered);
+    let mut spoiled = placed(random, place, position, made);
     spoil(random, &mut spoiled);
     let (_, other, spoil) = random.pick(BESIDE);
     if random.chance(30) && (other == place || other == Where::Any) {
@@ -200,7 +218,12 @@ fn spoiled(random: &mut Random, position: usize, answered: bool) -> Spoiled {
 }
 
 /// A sheet that is good but for upper bits in this position of such a block.
-fn placed(random: &mut Random, place: Where, position: usize, answered: bool) -> Spoiled {
+fn placed(
+    random: &mut Random,
+    place: Where,
+    position: usize,
+    (answered, made): (bool, Made),
+) -> Spoiled {
     let alone = matches!(place, Where::Any | Where::Last);
     let later = if alone && random.chance(30) {
         1
@@ -217,10 +240,9 @@ fn placed(random: &mut Random, place: Where, position: usize, answered: bool) ->
     let held = random.between(least, EVENTS_PER_BLOCK);
     let last = random.pick(&[least, held, EVENTS_PER_BLOCK]);
     let posts = some_posts(random);
-    let sheet = lively_sheet(random, posts, (later - 1) * EVENTS_PER_BLOCK + last);
-    let sheet = if answered { sheet.worked() } else { sheet };
+    let count = (later - 1) * EVENTS_PER_BLOCK + last;
     let mut spoiled = Spoiled {
-        bytes: sheet.bytes(),
+        bytes: made(random, posts, count, answered),
         block,
         position,
         unchecked: None,
@@ -243,6 +265,11 @@ impl Spoiled {
             self.bytes.resize(length, 0);
         }
         self.bytes
+    }
+
+    /// Which event of the sheet, from 1, was given upper bits first.
+    fn in_sheet(&self) -> usize {
+        (self.block - 1) * EVENTS_PER_BLOCK + self.position + 1
     }
 
     /// How many events a block holds; one where its count is 0, and 60 where it is more.

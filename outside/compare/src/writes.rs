@@ -50,7 +50,7 @@ pub const WRITES: &[Variety] = &[
 const MOST: Entry = [31, 63, 31, u32::MAX];
 
 /// Fields of any value that fits, often the greatest.
-fn any_entry(random: &mut Random) -> Entry {
+pub fn any_entry(random: &mut Random) -> Entry {
     MOST.map(|most| match random.below(3) {
         0 => most,
         _ if most == u32::MAX => random.edge_word(),
@@ -91,10 +91,15 @@ fn sized(random: &mut Random, by: i64) -> Request {
 
 /// One field of one event, seldom the first, is just out of range or far out.
 pub fn push_out(random: &mut Random, sheet: &mut Sheet, field: usize) {
-    let at = random.below(sheet.events.len());
+    push_out_of(random, &mut sheet.events, field);
+}
+
+/// The same of these events.
+pub fn push_out_of(random: &mut Random, events: &mut [Entry], field: usize) {
+    let at = random.below(events.len());
     let just = MOST[field] + 1;
     let wrong = [just, just, just + 1, 2 * just, 1 << 16, 1 << 31, u32::MAX];
-    sheet.events[at][field] = random.pick(&wrong);
+    events[at][field] = random.pick(&wrong);
 }
 
 fn out_of_field(random: &mut Random, field: usize) -> Request {

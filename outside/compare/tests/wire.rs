@@ -2,13 +2,14 @@
 
 use std::time::Duration;
 
-use compare::cases::{sorts, Wanted};
+use compare::cases::{sorts, Sort, Wanted};
 use compare::child::ChildLibrary;
 use compare::desk::Library;
 use compare::failing::{failing_inputs, failing_texts};
 use compare::fixed::sheet_of_everything;
 use compare::program::compare_program;
 use compare::run::{compare, named_case, only};
+use compare::tracks::cases as tracks;
 
 const SERVER: &str = env!("CARGO_BIN_EXE_model_server");
 
@@ -51,8 +52,26 @@ fn a_library_that_ends_or_talks_past_the_question_is_found() {
 }
 
 #[test]
+fn the_model_behind_the_wire_passes_on_two_tracks() {
+    let few = tracks::Wanted {
+        events: 3_000,
+        rows: 2_000,
+        sheets: 1_000,
+        questions: 300,
+    };
+    let mut library = child(&[SERVER]);
+    let run = tracks::compare_tracks(&tracks::sorts(), 3, few, &mut library);
+    assert!(run.is_ok_and(|tally| tally.answers[25] > 0));
+    assert_eq!(library.finish(), Ok(()));
+}
+
+#[test]
 fn one_case_is_replayed_alone() {
-    let sorts = sorts();
+    replayed_alone(sorts());
+    replayed_alone(tracks::sorts());
+}
+
+fn replayed_alone(sorts: Vec<Sort>) {
     for sort in &sorts {
         let name = format!("{}:17", sort.name);
         let (one, other) = (named_case(&sorts, 5, &name), named_case(&sorts, 5, &name));

@@ -1,10 +1,11 @@
 //! 01, Events, and the order of refusals under Numbers returned; 02, item 2, the stuck
-//! release button; and 02, item 5, short sections, whose refusals are "as those of the
-//! ordinary kind".
+//! release button; 02, item 5, short sections, whose refusals are "as those of the ordinary
+//! kind"; and of 02, item 7, when the shared circuit is busy.
 
 use crate::line::relay::{AN, JAM, KPG, L, LEVER, RL, SIGNAL, W241, W314};
 use crate::line::{kind, valid, Head, Post, Told, COUNT_LIMIT};
 use crate::number::*;
+use crate::tracks::facing;
 
 /// The events by their numbers: ten of 01, and two of 02, item 2.
 const REVERSE: u32 = 1;
@@ -34,9 +35,25 @@ pub fn event(row: &mut [Post], head: Head, number: u32, place: u32, stamp: u32) 
 
 /// One event on a line that is valid.
 pub fn event_on_valid(row: &mut [Post], head: Head, number: u32, place: u32, stamp: u32) -> Told {
+    event_beside(row, None, head, [number, place, stamp])
+}
+
+/// The same beside the other track's line, where only one signal can be under way between two
+/// neighbouring posts. "Refusals: 25 when the shared circuit is busy, for events 5, 6 and 7,
+/// after their own lists" (02, item 7).
+pub(crate) fn event_beside(
+    row: &mut [Post],
+    shared: Option<&[Post]>,
+    head: Head,
+    [number, place, stamp]: [u32; 3],
+) -> Told {
+    let refused = |answer| Told { answer, head };
     let answer = refusal(row, head, number, place, stamp);
     if answer != TAKEN {
-        return Told { answer, head };
+        return refused(answer);
+    }
+    if shared.is_some_and(|other| is_busy(other, number, place as usize)) {
+        return refused(BUSY);
     }
     change(row, number, place as usize);
     let head = Head {
@@ -44,6 +61,17 @@ pub fn event_on_valid(row: &mut [Post], head: Head, number: u32, place: u32, sta
         last: stamp,
     };
     Told { answer, head }
+}
+
+/// The other track's signal is under way between the two posts between which this event sends
+/// one: an announcement to the next post, a release to the one before.
+fn is_busy(other: &[Post], number: u32, post: usize) -> bool {
+    let sends_in = match number {
+        ANNOUNCE => Some(post),
+        RELEASE | GARAGE_RELEASE => Some(post - 1),
+        _ => None,
+    };
+    sends_in.is_some_and(|section| under_way(&other[facing(other.len(), section)]))
 }
 
 /// "Order for an event: 1, 3, 2, 5, 4, 6, then the event's own list." From 3 on; 22 and
@@ -71,10 +99,11 @@ fn refusal(row: &[Post], head: Head, number: u32, place: u32, stamp: u32) -> u32
     }
 }
 
-/// For 8, 9 and 10 the place is a section, 0 to N-2; else a post, 0 to N-1.
+/// For 8, 9 and 10 the place is a section, 0 to N-2; else a post, 0 to N-1. Where there are no
+/// posts there are no sections.
 fn place_exists(posts: usize, number: u32, place: u32) -> bool {
     let is_section = (ARRIVAL..=RESTORATION).contains(&number);
-    (place as usize) < posts - usize::from(is_section)
+    (place as usize) < posts.saturating_sub(usize::from(is_section))
 }
 
 /// "A stamp is behind when its difference from the last, taken round 2^32 and
@@ -175,7 +204,7 @@ fn garage_refusal(post: &Post) -> u32 {
 }
 
 /// A signal is under way in the section downstream of this post.
-fn under_way(post: &Post) -> bool {
+pub(crate) fn under_way(post: &Post) -> bool {
     post.is_up(W314) || post.is_up(W241)
 }
 

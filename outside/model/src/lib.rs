@@ -4,6 +4,7 @@
 //! It says what the papers say, in their order, in the plainest way. "01, X" in a
 //! comment names the part X of the first, "02, item K" an item of the second.
 
+pub mod both;
 mod comma;
 mod decimal;
 mod events;
@@ -16,23 +17,28 @@ mod register;
 mod sheet;
 pub mod short;
 pub mod stuck;
+mod tracks;
 mod why;
 mod working;
 
 pub use events::{event, event_on_valid};
 pub use line::{kind, kinds_right, relay, start, valid, Head, Post, Told, COUNT_LIMIT};
 pub use listed::Listed;
-pub use listing::listing;
-pub use register::{export, import, Exported, Imported, MOST_TEXT};
+pub use listing::{listing, listing_tracks};
+pub use register::{export, export_tracks, import, Exported, Imported, MOST_TEXT};
 pub use sheet::{
-    check, read, renew_check, sheet_length, test, unpack, write, Entry, Found, Verdict,
-    BLOCK_BYTES, CHECK, EVENTS_PER_BLOCK, MOST_BLOCKS, MOST_EVENTS, UNANSWERED,
+    check, read, read_tracks, renew_check, sheet_length, test, test_tracks, unpack, write,
+    write_tracks, Entry, Found, FoundTracks, Verdict, BLOCK_BYTES, CHECK, EVENTS_PER_BLOCK,
+    MOST_BLOCKS, MOST_EVENTS, ONE_TRACK, TWO_TRACKS, UNANSWERED,
 };
-pub use why::{why, Since};
-pub use working::{work, Worked};
+pub use tracks::{
+    circuit, event_tracks, event_tracks_on_valid, start_tracks, valid_tracks, TrackStep,
+};
+pub use why::{why, why_tracks, Since};
+pub use working::{work, work_tracks, Worked, WorkedTracks};
 
 /// 01, Numbers returned; 29 by 02, item 1; 22 and 23 by 02, item 2; 28 by 02, item 3; 24 by
-/// 02, item 6.
+/// 02, item 6; 25 by 02, item 7.
 pub mod number {
     pub const TAKEN: u32 = 0;
     pub const NOT_VALID: u32 = 1;
@@ -59,6 +65,7 @@ pub mod number {
     pub const JAMMED: u32 = 22;
     pub const NOT_JAMMED: u32 = 23;
     pub const UPPER_BITS: u32 = 24;
+    pub const BUSY: u32 = 25;
     pub const CANNOT_STAND: u32 = 28;
     pub const NOTHING_TO_TELL: u32 = 29;
 }

@@ -1,15 +1,16 @@
 //! 01, The program and one listing, and the words that 02, items 1 and 3 give the program. Each
-//! of them that reads a sheet prints its refusal as the listing does.
+//! of them that reads a sheet prints its refusal as the listing does. Which forms of a sheet it
+//! reads (02, item 7) is one word to all of them.
 
 use std::io::{self, Read, Write};
 
 use crate::decimal::decimal;
-use crate::listing::{event_line, listing, refused_line, refused_sheet};
+use crate::listing::{event_line, listing_of, refused_line, refused_sheet};
 use crate::number::TAKEN;
-use crate::register::{export, import, Exported, Imported, MOST_TEXT};
-use crate::sheet::{contents, BLOCK_BYTES, MOST_BLOCKS};
-use crate::why::why;
-use crate::working::{work, Worked};
+use crate::register::{export_of, import, Exported, Imported, MOST_TEXT};
+use crate::sheet::{contents, Forms, BLOCK_BYTES, MOST_BLOCKS};
+use crate::why::why_of;
+use crate::working::{work_of, WorkedTracks};
 
 /// What the program says on standard error, each time alone.
 pub const USAGE: &str = "usage: desk [work | why POSITION | export | import] <INPUT\n";
@@ -63,14 +64,23 @@ pub fn asked(words: &[&str]) -> Option<Asked> {
 
 /// What the program writes when it is asked for this and the input was read.
 pub fn wrote(asked: Asked, input: &[u8]) -> Wrote {
+    wrote_of(Forms::OneTrack, asked, input)
+}
+
+/// The same of the program that takes both forms.
+pub fn wrote_tracks(asked: Asked, input: &[u8]) -> Wrote {
+    wrote_of(Forms::Both, asked, input)
+}
+
+fn wrote_of(forms: Forms, asked: Asked, input: &[u8]) -> Wrote {
     match asked {
-        Asked::Listing => Wrote::printing(&listing(input)),
-        Asked::Worked => made(input.len(), |out| match work(input, out) {
-            Worked { number: TAKEN, .. } => Ok(input.len()),
+        Asked::Listing => Wrote::printing(&listing_of(forms, input)),
+        Asked::Worked => made(input.len(), |out| match work_of(forms, input, out) {
+            WorkedTracks { number: TAKEN, .. } => Ok(input.len()),
             told => Err(refused_sheet(told.number, told.block, told.position)),
         }),
-        Asked::Why(position) => Wrote::printing(&why_text(input, position)),
-        Asked::Exported => made(MOST_TEXT, |out| match export(input, out) {
+        Asked::Why(position) => Wrote::printing(&why_text(forms, input, position)),
+        Asked::Exported => made(MOST_TEXT, |out| match export_of(forms, input, out) {
             Exported {
                 number: TAKEN,
                 bytes,
@@ -107,15 +117,14 @@ fn made(room: usize, call: impl Fn(&mut [u8]) -> Result<usize, String>) -> Wrote
 }
 
 /// The listing's line of the event that is named; 0 alone where none is.
-fn why_text(sheet: &[u8], position: u32) -> String {
-    let since = why(sheet, position);
+fn why_text(forms: Forms, sheet: &[u8], position: u32) -> String {
+    let since = why_of(forms, sheet, position);
     if since.number != TAKEN {
         return refused_sheet(since.number, since.block, since.position);
     }
-    let events = contents(sheet).map_or(Vec::new(), |found| found.events);
-    match since.position {
-        0 => "0\n".to_string(),
-        named => event_line(named, &events[named as usize - 1]),
+    match contents(forms, sheet) {
+        Ok(found) if since.position > 0 => event_line(&found, since.position as usize - 1),
+        _ => "0\n".to_string(),
     }
 }
 

@@ -1,11 +1,13 @@
 //! 02, item 3: the register in comma-separated text; of item 5, that short forms may stand
-//! in its table.
+//! in its table; of item 7, that a sheet of two tracks has no register.
 
 use crate::comma::{records, Field};
 use crate::decimal::decimal;
 use crate::line::kind;
-use crate::number::{CANNOT_STAND, TAKEN, TOO_SHORT};
-use crate::sheet::{contents, in_its_field, sheet_length, write, Contents, Verdict};
+use crate::number::{CANNOT_STAND, CONTENTS, TAKEN, TOO_SHORT};
+use crate::sheet::{
+    contents, in_its_field, sheet_length, write, Contents, Forms, Verdict, ONE_TRACK,
+};
 
 /// What an export returns. A refusal: its number, block and position, and 0 bytes.
 #[derive(Clone, Copy, Debug, Default, PartialEq, Eq)]
@@ -47,10 +49,23 @@ const LAST_POST: usize = 31;
 
 /// "Refusals: export as for reading, then 21."
 pub fn export(sheet: &[u8], out: &mut [u8]) -> Exported {
-    let found = match contents(sheet) {
+    export_of(Forms::OneTrack, sheet, out)
+}
+
+/// The same where reading takes both forms: "item 3's export refuses it (20, block 0)" (02, item
+/// 7), after the refusals of reading, and so where a one-track sheet would be exported.
+pub fn export_tracks(sheet: &[u8], out: &mut [u8]) -> Exported {
+    export_of(Forms::Both, sheet, out)
+}
+
+pub(crate) fn export_of(forms: Forms, sheet: &[u8], out: &mut [u8]) -> Exported {
+    let found = match contents(forms, sheet) {
         Ok(found) => found,
         Err(refused) => return refused.into(),
     };
+    if found.form != ONE_TRACK {
+        return Verdict::of(CONTENTS, 0).into();
+    }
     let text = text_of(&found);
     if out.len() < text.len() {
         return Verdict::of(TOO_SHORT, 0).into();
@@ -69,7 +84,7 @@ pub fn export(sheet: &[u8], out: &mut [u8]) -> Exported {
 fn text_of(found: &Contents) -> String {
     let mut text = HEADER.join(",") + "\r\n";
     text += &format!(",,,{},\r\n", found.stamp);
-    for (post, kind) in found.kinds.iter().enumerate() {
+    for (post, kind) in found.table.iter().enumerate() {
         text += &format!(",{kind},{post},,\r\n");
     }
     for (position, [event, post, answer, stamp]) in (1..).zip(&found.events) {
@@ -93,7 +108,7 @@ pub fn import(text: &[u8], out: &mut [u8]) -> Imported {
     };
     // A table and events that stand in a register can be written but for 18 and 21, which
     // writing tests in that order.
-    match write(&found.kinds, found.stamp, &found.events, out) {
+    match write(&found.table, found.stamp, &found.events, out) {
         TAKEN => Imported {
             number: TAKEN,
             record: 0,
@@ -105,11 +120,7 @@ pub fn import(text: &[u8], out: &mut [u8]) -> Imported {
 
 /// What the records say, or the number of the first that can't stand or is missing.
 fn contents_of(text: &[u8]) -> Result<Contents, u64> {
-    let mut found = Contents {
-        kinds: Vec::new(),
-        stamp: 0,
-        events: Vec::new(),
-    };
+    let mut found = Contents::empty();
     let records = records(text);
     for (number, record) in (1..).zip(&records) {
         let fields = record.as_deref().and_then(five);
@@ -120,7 +131,7 @@ fn contents_of(text: &[u8]) -> Result<Contents, u64> {
             return Err(number);
         }
     }
-    if !is_ended(&found.kinds) {
+    if !is_ended(&found.table) {
         return Err(records.len() as u64 + 1);
     }
     Ok(found)
@@ -148,9 +159,9 @@ fn stand(number: u64, fields: [&str; 5], found: &mut Contents) -> Option<()> {
             found.stamp = start(fields)?;
             Some(())
         }
-        _ if !is_ended(&found.kinds) => {
-            let kind = post(fields, found.kinds.len())?;
-            found.kinds.push(kind);
+        _ if !is_ended(&found.table) => {
+            let kind = post(fields, found.table.len())?;
+            found.table.push(kind);
             Some(())
         }
         _ => {

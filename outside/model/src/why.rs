@@ -1,8 +1,8 @@
-//! 02, item 1: tell the pupil why.
+//! 02, item 1: tell the pupil why; of 02, item 7, on the track of the event that is asked about.
 
 use crate::line::relay::{L, RL};
 use crate::number::{LEVER_LOCKED, NOTHING_TO_TELL, RL_DOWN, RL_UP_ONWARD, TAKEN};
-use crate::sheet::{contents, Verdict};
+use crate::sheet::{contents, Forms, Verdict};
 use crate::working::take_events;
 
 /// What a question returns: 0, 0 and the position of the event that is named, in the sheet,
@@ -29,25 +29,37 @@ impl From<Verdict> for Since {
 /// those of reading, when the sheet's answers aren't the ones that working its events
 /// gives, or the chosen event has another answer or doesn't exist."
 pub fn why(sheet: &[u8], position: u32) -> Since {
-    let found = match contents(sheet) {
+    why_of(Forms::OneTrack, sheet, position)
+}
+
+/// The same of both forms.
+pub fn why_tracks(sheet: &[u8], position: u32) -> Since {
+    why_of(Forms::Both, sheet, position)
+}
+
+pub(crate) fn why_of(forms: Forms, sheet: &[u8], position: u32) -> Since {
+    let found = match contents(forms, sheet) {
         Ok(found) => found,
         Err(refused) => return refused.into(),
     };
     let nothing = Since::from(Verdict::of(NOTHING_TO_TELL, 0));
-    let mut worked = found.clone();
-    let mut lines: Vec<Vec<u32>> = Vec::new();
-    take_events(&mut worked, |row| {
-        lines.push(row.iter().map(|post| post.word).collect());
-    });
-    let before = (position as usize).checked_sub(1);
-    let Some([_, post, answer, _]) = before.and_then(|at| found.events.get(at)) else {
+    let chosen = (position as usize).checked_sub(1);
+    let Some(at) = chosen.filter(|at| *at < found.events.len()) else {
         return nothing;
     };
-    match state_told(*answer) {
+    let [_, post, answer, _] = found.events[at];
+    let mut worked = found.clone();
+    let mut lines: Vec<Vec<u32>> = Vec::new();
+    take_events(&mut worked, |now| {
+        // Only an event of the same track alters a relay of this line.
+        let row = &now.rows[found.tracks[at] as usize];
+        lines.push(row.iter().map(|post| post.word).collect());
+    });
+    match state_told(answer) {
         Some((relay, up)) if worked.events == found.events => Since {
             number: TAKEN,
             block: 0,
-            position: last_change(&lines[..position as usize], *post as usize, relay, up),
+            position: last_change(&lines[..position as usize], post as usize, relay, up),
         },
         _ => nothing,
     }

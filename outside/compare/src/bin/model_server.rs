@@ -6,6 +6,9 @@ use std::io::{self, BufRead, BufReader, Read, Write};
 
 use compare::desk::{reply, Model};
 use compare::request::{post_of, Request, POST_WORDS};
+use compare::tracks::request::{Rows, Tables, TrackRequest};
+use compare::tracks::sheets::TrackSheet;
+use compare::tracks::two::Two;
 use model::{Head, Post};
 
 struct Wire<R>(R);
@@ -70,7 +73,100 @@ impl<R: Read> Wire<R> {
                     steps,
                 })
             }
+            [code @ 12..=15] => self.lines_request(code).map(Request::Tracks),
+            [code @ 16..=19] => self.track_sheet_request(code).map(Request::Tracks),
             [code] => self.sheet_request(code),
+        }
+    }
+
+    fn rows(&mut self, first: u32, second: u32) -> io::Result<Rows> {
+        Ok([self.row(first)?, self.row(second)?])
+    }
+
+    fn tables(&mut self, first: u32, second: u32) -> io::Result<Tables> {
+        Ok([self.words(first as usize)?, self.words(second as usize)?])
+    }
+
+    /// The calls of two tracks, on lines.
+    fn lines_request(&mut self, code: u32) -> io::Result<TrackRequest> {
+        match code {
+            12 => {
+                let [n, m, k, j, circuit, stamp] = self.few()?;
+                Ok(TrackRequest::Start {
+                    rows: self.rows(n, m)?,
+                    tables: self.tables(k, j)?,
+                    circuit,
+                    stamp,
+                })
+            }
+            15 => {
+                let [k, j, circuit, stamp, count] = self.few()?;
+                Ok(TrackRequest::Run {
+                    tables: self.tables(k, j)?,
+                    circuit,
+                    stamp,
+                    steps: self.many(count)?,
+                })
+            }
+            _ => {
+                let [n, m, circuit, taken, last] = self.few()?;
+                let step = if code == 14 { Some(self.few()?) } else { None };
+                let (rows, head) = (self.rows(n, m)?, Head { taken, last });
+                let two = Two {
+                    rows,
+                    circuit,
+                    head,
+                };
+                Ok(match step {
+                    Some(step) => TrackRequest::Event(two, step),
+                    None => TrackRequest::Valid(two),
+                })
+            }
+        }
+    }
+
+    fn track_write(&mut self) -> io::Result<TrackRequest> {
+        let [form, words, stamp, events, tracks, out_len, fill] = self.few()?;
+        let sheet = TrackSheet {
+            form,
+            table: self.words(words as usize)?,
+            stamp,
+            events: self.many(events)?,
+            tracks: self.words(tracks as usize)?,
+        };
+        let (out_len, fill) = (out_len as usize, fill as u8);
+        Ok(TrackRequest::Write {
+            sheet,
+            out_len,
+            fill,
+        })
+    }
+
+    /// The calls of two tracks, on sheets.
+    fn track_sheet_request(&mut self, code: u32) -> io::Result<TrackRequest> {
+        match code {
+            16 => {
+                let [bytes, table, events, tracks, fill] = self.few()?;
+                Ok(TrackRequest::Read {
+                    sheet: self.bytes(bytes as usize)?,
+                    rooms: [table, events, tracks].map(|room| room as usize),
+                    fill,
+                })
+            }
+            17 => self.track_write(),
+            18 => {
+                let [bytes, out_len, fill] = self.few()?;
+                Ok(TrackRequest::Work {
+                    sheet: self.bytes(bytes as usize)?,
+                    out_len: out_len as usize,
+                    fill: fill as u8,
+                })
+            }
+            _ => {
+                let [bytes, position] = self.few()?;
+                let sheet = self.bytes(bytes as usize)?;
+                Ok(TrackRequest::Why { sheet, position })
+            }
         }
     }
 

@@ -2,6 +2,8 @@
 //! uses some of it.
 #![allow(dead_code)]
 
+pub mod tracks;
+
 use compare::cases::{sorts, Wanted};
 use compare::desk::{Desk, InProcess};
 use compare::run::{compare, compare_sorts, Difference};

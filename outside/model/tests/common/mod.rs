@@ -1,6 +1,8 @@
 //! Sheets and lines for the tests, each of which uses some of them.
 #![allow(dead_code)]
 
+pub mod two;
+
 use model::number::TAKEN;
 use model::program::{asked, wrote, Wrote};
 use model::{
