@@ -30,7 +30,7 @@ pub fn since_text(s: &[u8], position: u32, out: &mut [u8; LINE]) -> usize
     }
     let mut kinds = [0u32; 32];
     let mut events = [[0u32; 4]; MOST_ENTRIES];
-    sheet::read(s, &mut kinds, &mut events);
+    lent_sheet::read(s, &mut kinds, &mut events);
     let i = (at - 1) as usize;
     let e = events[i];
     listing::event_line(out, at, e[0], e[1], e[2])

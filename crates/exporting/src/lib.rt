@@ -186,7 +186,7 @@ pub fn export(s: &[u8], out: &mut [u8]) -> Exported
 {
     let mut kinds = [0u32; 32];
     let mut events = [[0u32; 4]; MOST_ENTRIES];
-    let found = sheet::read(s, &mut kinds, &mut events);
+    let found = lent_sheet::read(s, &mut kinds, &mut events);
     if found.number != 0 {
         return refuse(found.number, found.block, found.position);
     }

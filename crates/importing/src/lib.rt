@@ -189,7 +189,7 @@ fn write_fed(s: State, kinds: &[u32], events: &[[u32; 4]], out: &mut [u8]) -> Im
         return refuse(relay::NOT_VALID, 0);
     }
     let m = s.events as usize;
-    let number = sheet::write(&kinds[..n], s.stamp, &events[..m], out);
+    let number = lent_sheet::write(&kinds[..n], s.stamp, &events[..m], out);
     if number != 0 {
         return refuse(number, 0);
     }

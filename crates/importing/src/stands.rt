@@ -38,7 +38,7 @@ fn is_below(n: u64, m: u64) -> bool
 fn may_stand(i: u32, kind: u32) -> bool
     ensures { λ r. ⌜ r ≡ mayStand i kind ⌝ }
 {
-    let form = relay::kinds::ordinary(kind);
+    let form = step::kinds::ordinary(kind);
     if i == 0 {
         return form == relay::ORIGIN;
     }
@@ -129,7 +129,7 @@ fn after_kind(s: State) -> State
 {
     let k = s.marks;
     if kind_stands(s.posts, k) {
-        if relay::kinds::ordinary(number_of(k.b)) == relay::TERMINUS {
+        if step::kinds::ordinary(number_of(k.b)) == relay::TERMINUS {
             return go_on(s, Stage::AtEvents, s.stamp, s.posts + 1, s.events);
         }
         return go_on(s, Stage::AtKinds, s.stamp, s.posts + 1, s.events);

@@ -37,14 +37,14 @@ pub extern "C" fn desk_start(row: &mut [Post], kinds: &[u32], stamp: u32) -> Tol
 {
     let n = row.len();
     if !line::may_start(n, kinds) {
-        return relay::gate::tell(relay::NOT_VALID, 0, 0);
+        return step::gate::tell(relay::NOT_VALID, 0, 0);
     }
     let mut i: usize = 0;
     while i < n {
         row[i] = line::fresh(kinds[i]);
         i += 1;
     }
-    relay::gate::tell(relay::TAKEN, 0, stamp)
+    step::gate::tell(relay::TAKEN, 0, stamp)
 }
 
 // One event: the post or section `place`, and at most one neighbour of it, altered in place; refused, the row is as it was.
@@ -53,15 +53,15 @@ pub extern "C" fn desk_event(row: &mut [Post], s: Head, number: u32, place: u32,
     ensures { λ r. ⌜ Gives (eventOf (now (row .entry)) s number place stamp) r (now (row .exit)) ⌝ }
 {
     if !desk_valid(row, s) {
-        return relay::gate::refuse(relay::NOT_VALID, s);
+        return step::gate::refuse(relay::NOT_VALID, s);
     }
-    let no = relay::gate::gate_refusal(row.len(), s, number, place, stamp);
+    let no = step::gate::gate_refusal(row.len(), s, number, place, stamp);
     if no != 0 {
-        return relay::gate::refuse(no, s);
+        return step::gate::refuse(no, s);
     }
     let i = place as usize;
-    let j = relay::gate::neighbour_of(number, place);
-    let out = relay::gate::work(row[i], row[j], s, number, stamp);
+    let j = step::gate::neighbour_of(number, place);
+    let out = step::gate::work(row[i], row[j], s, number, stamp);
     row[i] = out.here;
     row[j] = out.other;
     out.told

@@ -62,15 +62,15 @@ fn event_on(
     ensures { λ r. ⌜ Gives (eventOn circuit (now (own .entry)) (now (other .entry)) s number place stamp) r (now (own .exit)) ⌝ }
 {
     if !desk_valid_tracks(own, other, circuit, s) {
-        return relay::gate::refuse(relay::NOT_VALID, s);
+        return step::gate::refuse(relay::NOT_VALID, s);
     }
     let n = own.len();
-    let no = relay::gate::gate_refusal(n, s, number, place, stamp);
+    let no = step::gate::gate_refusal(n, s, number, place, stamp);
     if no != 0 {
-        return relay::gate::refuse(no, s);
+        return step::gate::refuse(no, s);
     }
     let i = place as usize;
-    let j = relay::gate::neighbour_of(number, place);
+    let j = step::gate::neighbour_of(number, place);
     let k = tracks::circuit::facing_of(n, number, place);
     let out = tracks::circuit::work_on(own[i], own[j], other[k].word, circuit, s, number, stamp);
     own[i] = out.here;
@@ -99,9 +99,9 @@ pub extern "C" fn desk_event_tracks(
         return event_on(second, first, circuit, s, number, place, stamp);
     }
     if !desk_valid_tracks(first, second, circuit, s) {
-        return relay::gate::refuse(relay::NOT_VALID, s);
+        return step::gate::refuse(relay::NOT_VALID, s);
     }
-    relay::gate::refuse(tracks::circuit::no_track(number), s)
+    step::gate::refuse(tracks::circuit::no_track(number), s)
 }
 
 // Whether rows of `n` and `m` posts may be started from the two tables.
@@ -127,7 +127,7 @@ pub extern "C" fn desk_start_tracks(
     ensures { λ r. ⌜ GivesTwo (startTwo circuit (now (first .entry)) (now (second .entry)) (now (kinds .entry)) (now (others .entry)) stamp) r (now (first .exit)) (now (second .exit)) ⌝ }
 {
     if !may_start_tracks(first.len(), second.len(), kinds, others, circuit) {
-        return relay::gate::tell(relay::NOT_VALID, 0, 0);
+        return step::gate::tell(relay::NOT_VALID, 0, 0);
     }
     lent::desk_start(first, kinds, stamp);
     lent::desk_start(second, others, stamp)

@@ -52,7 +52,7 @@ pub fn is_last_section(n: usize, i: usize) -> bool
 pub fn kind_fits(n: usize, i: usize, kind: u32) -> bool
     ensures { λ r. ⌜ r ≡ kindFits n i kind ⌝ }
 {
-    let form = relay::kinds::ordinary(kind);
+    let form = step::kinds::ordinary(kind);
     if i == 0 {
         return form == relay::ORIGIN;
     }

@@ -72,7 +72,7 @@ pub fn passage_is_announced(kind: u32, w: u32) -> bool
     ensures { λ r. ⌜ r ≡ passageIsAnnounced kind w ⌝ }
 {
     needs(
-        !relay::kinds::is_short(kind),
+        !step::kinds::is_short(kind),
         needs(w & relay::KPG != 0, w & relay::AN != 0),
     )
 }
@@ -80,7 +80,7 @@ pub fn passage_is_announced(kind: u32, w: u32) -> bool
 pub fn word_ok(kind: u32, w: u32) -> bool
     ensures { λ r. ⌜ r ≡ wordOk kind w ⌝ }
 {
-    let form = relay::kinds::ordinary(kind);
+    let form = step::kinds::ordinary(kind);
     no_other_bits(w)
         & stays_down(form, w)
         & held_is_locked(form, w)
@@ -93,7 +93,7 @@ pub fn word_ok(kind: u32, w: u32) -> bool
 pub fn stays_zero(p: Post) -> bool
     ensures { λ r. ⌜ r ≡ staysZero p ⌝ }
 {
-    let form = relay::kinds::ordinary(p.kind);
+    let form = step::kinds::ordinary(p.kind);
     needs(
         form == relay::ORIGIN,
         (p.r == 0) & ((p.q == 0) & ((p.e == 0) & (p.c == 0))),
@@ -134,7 +134,7 @@ pub fn post_ok(n: usize, i: usize, taken: u32, p: Post) -> bool
 pub fn fresh_word(kind: u32) -> u32
     ensures { λ r. ⌜ r ≡ freshWord kind ⌝ }
 {
-    if relay::kinds::ordinary(kind) == relay::TERMINUS {
+    if step::kinds::ordinary(kind) == relay::TERMINUS {
         return 0;
     }
     relay::L | relay::RL

@@ -159,7 +159,7 @@ pub fn list(s: &[u8], page: &mut [u8; PAGE]) -> usize
     let mut kinds = [0u32; 32];
     let mut events = [[0u32; 4]; MOST_ENTRIES];
     let worked = &out[..n];
-    let found = sheet::read(worked, &mut kinds, &mut events);
+    let found = lent_sheet::read(worked, &mut kinds, &mut events);
     let m = found.events as usize;
     let used = put_events(page, &events[..m]);
     let row = done.row;

@@ -20,7 +20,7 @@ use working::Worked;
 pub extern "C" fn desk_check(block: &[u8], number: u32) -> bool
     ensures { λ r. ⌜ r ≡ checksAlone (now (block .entry)) number ⌝ }
 {
-    sheet::check(block, number)
+    lent_sheet::check(block, number)
 }
 
 // Tests a sheet.
@@ -28,7 +28,7 @@ pub extern "C" fn desk_check(block: &[u8], number: u32) -> bool
 pub extern "C" fn desk_test(s: &[u8]) -> Verdict
     ensures { λ r. ⌜ r ≡ verdictOf (now (s .entry)) ⌝ }
 {
-    sheet::test(s)
+    lent_sheet::test(s)
 }
 
 // Reads a sheet into lent room.
@@ -36,7 +36,7 @@ pub extern "C" fn desk_test(s: &[u8]) -> Verdict
 pub extern "C" fn desk_read(s: &[u8], kinds: &mut [u32], events: &mut [[u32; 4]]) -> Found
     ensures { λ r. ⌜ Reads (now (s .entry)) r (now (kinds .entry)) (now (kinds .exit)) (now (events .entry)) (now (events .exit)) ⌝ }
 {
-    sheet::read(s, kinds, events)
+    lent_sheet::read(s, kinds, events)
 }
 
 // Writes a sheet to the front of `out`.
@@ -44,7 +44,7 @@ pub extern "C" fn desk_read(s: &[u8], kinds: &mut [u32], events: &mut [[u32; 4]]
 pub extern "C" fn desk_write(kinds: &[u32], stamp: u32, events: &[[u32; 4]], out: &mut [u8]) -> u32
     ensures { λ r. ⌜ Writes (record { stamp = stamp; kinds = now (kinds .entry); events = now (events .entry) }) r (now (out .entry)) (now (out .exit)) ⌝ }
 {
-    sheet::write(kinds, stamp, events, out)
+    lent_sheet::write(kinds, stamp, events, out)
 }
 
 // Works a sheet whole.

@@ -14,7 +14,7 @@ use Rattle.relay.specs.declared.Pair.{Pair}
 use Rattle.relay.specs.declared.Post.{Post}
 use Rattle.relay.proofs.Cases.{sentBack, underWay, garage-kind, Taken, reverse, normalise, pass, pass-idle, strike-block, strike-close, strike-idle, announce, release, garage, announcement-arrives, announcement-jammed, release-arrives, announcement-lost, release-lost, restore, button-jams, button-freed}
 use Rattle.relay.proofs.Facts.{KindOk, WordOk, PostOk, SectionOk, Within}
-use Rattle.relay.proofs.KeptWords.{Keeps, keeps-word, word-reverse, word-normal, word-pass, word-block, word-close, word-announce, word-release, word-release-sent, word-announcement-gone, word-announcement-in, word-release-in, word-release-gone, word-restore, word-jam, word-free}
+use Rattle.relay.proofs.KeptWords.{Keeps, word-reverse, word-normal, word-pass, word-block, word-close, word-announce, word-release, word-release-sent, word-announcement-gone, word-announcement-in, word-release-in, word-release-gone, word-restore, word-jam, word-free}
 use Rattle.relay.proofs.Truth.{facts, equal-or-not, split, ones, up-or-down}
 use Rattle.relay.proofs.Word.{relays}
 
@@ -68,7 +68,7 @@ alike w = (refl, refl, refl, refl, refl)
 module _ {n i t : ℕ} {p : Post} (r : PostOk n i t p) where
   -- its word, after a change that keeps the rules
   word : {c : ℕ → ℕ → Bool} {f : ℕ → ℕ} → Keeps c f → c (p .kind) (p .word) ≡ true → WordOk (p .kind) (f (p .word))
-  word k e = keeps-word k (kind-small n i (form p) (r .kind)) (r .word) e
+  word k e = k .keeps-word (p .kind) (p .word) (kind-small n i (form p) (r .kind)) (r .word) e
 
   -- in its word alone
   word-to : {w : ℕ} → WordOk (p .kind) w → PostOk n i (t + 1) (wordTo w p)

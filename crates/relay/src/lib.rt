@@ -1,11 +1,5 @@
-// The relay rules: the record of a post, the session head, and the twelve events on one post and its neighbour, by value.
-// What each function must be stands in specs/, beside the sentence of the paper that it comes from.
-ghost use mathlib.Core.Path.{_≡_};
-
-pub mod clock;
-pub mod events;
-pub mod gate;
-pub mod kinds;
+// The relay rules: the record of a post, the session head, and the numbers of the paper. The rules themselves stand in specs/,
+// each beside the sentence that it comes from, and proofs/ has what is proved of them; `step` has them as functions.
 
 // The kinds of post.
 pub const ORIGIN: u32 = 0;

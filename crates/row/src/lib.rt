@@ -47,23 +47,23 @@ pub fn event_row(row: Row, s: Head, number: u32, place: u32, stamp: u32) -> Stoo
     ensures { λ r. ⌜ r ≡ eventRow row s number place stamp ⌝ }
 {
     if !valid_row(row, s) {
-        let told = relay::gate::refuse(relay::NOT_VALID, s);
+        let told = step::gate::refuse(relay::NOT_VALID, s);
         return Stood {
             told: told,
             row: row,
         };
     }
-    let no = relay::gate::gate_refusal(row.n, s, number, place, stamp);
+    let no = step::gate::gate_refusal(row.n, s, number, place, stamp);
     if no != 0 {
-        let told = relay::gate::refuse(no, s);
+        let told = step::gate::refuse(no, s);
         return Stood {
             told: told,
             row: row,
         };
     }
     let i = place as usize;
-    let j = relay::gate::neighbour_of(number, place);
-    let out = relay::gate::work(row.posts[i], row.posts[j], s, number, stamp);
+    let j = step::gate::neighbour_of(number, place);
+    let out = step::gate::work(row.posts[i], row.posts[j], s, number, stamp);
     let here = out.here;
     let other = out.other;
     let told = out.told;
@@ -84,7 +84,7 @@ pub fn start_row(kinds: &[u32], stamp: u32) -> Stood
     let b = line::blank_post();
     let mut posts = [b; 32];
     if !line::may_start(n, kinds) {
-        let told = relay::gate::tell(relay::NOT_VALID, 0, 0);
+        let told = step::gate::tell(relay::NOT_VALID, 0, 0);
         return Stood {
             told: told,
             row: Row { posts: posts, n: 0 },
@@ -95,7 +95,7 @@ pub fn start_row(kinds: &[u32], stamp: u32) -> Stood
         posts[i] = line::fresh(kinds[i]);
         i += 1;
     }
-    let told = relay::gate::tell(relay::TAKEN, 0, stamp);
+    let told = step::gate::tell(relay::TAKEN, 0, stamp);
     Stood {
         told: told,
         row: Row { posts: posts, n: n },

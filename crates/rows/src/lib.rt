@@ -81,7 +81,7 @@ pub fn event_beside(
     ensures { λ r. ⌜ r ≡ eventBeside circuit own other s number place stamp ⌝ }
 {
     if !beside_ok(own, other, circuit, s) {
-        let told = relay::gate::refuse(relay::NOT_VALID, s);
+        let told = step::gate::refuse(relay::NOT_VALID, s);
         return Stood {
             told: told,
             row: own,
@@ -97,7 +97,7 @@ pub fn event_beside(
         tracks::circuit::facing_of(row::count(other), number, place),
     );
     if tracks::circuit::is_hindered(circuit, number, w) {
-        let busy = relay::gate::refuse(tracks::CIRCUIT_BUSY, s);
+        let busy = step::gate::refuse(tracks::CIRCUIT_BUSY, s);
         return Stood {
             told: busy,
             row: own,
@@ -150,7 +150,7 @@ pub fn event_rows(
         };
     }
     let no = nowhere_of(first, second, circuit, s, number);
-    let told = relay::gate::refuse(no, s);
+    let told = step::gate::refuse(no, s);
     StoodTwo {
         told: told,
         first: first,
@@ -164,7 +164,7 @@ fn no_start() -> StoodTwo
 {
     let b = line::blank_post();
     let posts = [b; 32];
-    let told = relay::gate::tell(relay::NOT_VALID, 0, 0);
+    let told = step::gate::tell(relay::NOT_VALID, 0, 0);
     StoodTwo {
         told: told,
         first: Row { posts: posts, n: 0 },

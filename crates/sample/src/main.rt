@@ -21,6 +21,6 @@ fn main() {
         [1, 0, 31, 15000],
     ];
     let mut out = [0u8; 1024];
-    sheet::write(&kinds, 0, &events, &mut out);
+    lent_sheet::write(&kinds, 0, &events, &mut out);
     stream::print(&out);
 }

@@ -15,7 +15,7 @@ use Rattle.sheet.specs.Sheet.{tableWords}
 use Rattle.sheet.specs.Reading.{formIn, tableIn, tableFits, formOk, headOk, eventsFit, eventsOk, firstUpper, entriesOk, zeros, contentsOk, verdictAt, verdict, contentsFault, firstBad}
 use Rattle.sheet.specs.Shape.{shape, headShape, shapeOf}
 use Rattle.sheet.specs.declared.Verdict.{Verdict}
-use Rattle.sheet.specs.declared.blocks.Shape.{Shape}
+use Rattle.sheet.specs.declared.Shape.{Shape}
 use Rattle.sheet.proofs.Table.{fits-few, words-few}
 
 -- ---- the shape of block 0 of a sheet that may be of so many tracks

@@ -9,8 +9,8 @@ use lib.ListN.{length, getD}
 use native.Mathlib.Omega.{arith}
 use Rattle.sheet.specs.Entry.{packed, onTrack, numberIn, postIn, answerIn, trackIn, upperZero, valuesOf, unpacked, inFields, entryWord, entryOf, stampOf}
 use Rattle.sheet.specs.Layout.{upperBits}
-use Rattle.sheet.specs.declared.entry.Unpacked.{Unpacked}
-use Rattle.sheet.specs.declared.entry.Unpacked.the-variants.{Fields, Upper}
+use Rattle.sheet.specs.declared.Unpacked.{Unpacked}
+use Rattle.sheet.specs.declared.Unpacked.the-variants.{Fields, Upper}
 use Rattle.relay.proofs.Truth.{split}
 use Rattle.sheet.proofs.Fields.{In}
 

@@ -9,8 +9,8 @@ use lib.Dec.{ltb}
 use lib.ListN.{getD}
 use Rattle.relay.specs.Choice.{pick}
 use Rattle.sheet.specs.Layout.{upperBits}
-use Rattle.sheet.specs.declared.entry.Unpacked.{Unpacked}
-use Rattle.sheet.specs.declared.entry.Unpacked.the-variants.{Fields, Upper}
+use Rattle.sheet.specs.declared.Unpacked.{Unpacked}
+use Rattle.sheet.specs.declared.Unpacked.the-variants.{Fields, Upper}
 
 -- the four numbers of an event, in this order
 abbrev pub entry : ℕ → ℕ → ℕ → ℕ → List ℕ

@@ -12,7 +12,7 @@ use Rattle.sheet.specs.Sheet.{tableWords}
 use Rattle.sheet.specs.Check.{word}
 use Rattle.sheet.specs.Entry.{upperZero}
 use Rattle.sheet.specs.Reading.{formIn, tableIn, tableFits, formOk, eventsFit}
-use Rattle.sheet.specs.declared.blocks.Shape.{Shape}
+use Rattle.sheet.specs.declared.Shape.{Shape}
 
 abbrev pub shape : Bool → ℕ → ℕ → Shape
 shape ok events used = record { ok = ok; events = events; used = used }

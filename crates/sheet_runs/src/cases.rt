@@ -25,7 +25,7 @@ fn word_at(s: &[u8], at: usize) -> u64 {
 
 // What testing says: number, block and position.
 fn tested(said: bool, s: &[u8]) -> bool {
-    let v = sheet::test(s);
+    let v = lent_sheet::test(s);
     let said = say::number(said, v.number);
     let said = say::number(said, v.block);
     let said = say::number(said, v.position);
@@ -50,7 +50,7 @@ pub fn paper(said: bool) -> bool {
     let events = [FIRST; 1];
     let mut out = [9u8; 1030];
     let said = say::word(said, b"written");
-    let said = say::number(said, sheet::write(&kinds, 0, &events, &mut out));
+    let said = say::number(said, lent_sheet::write(&kinds, 0, &events, &mut out));
     let said = say::long(said, word_at(&out, 508));
     let said = say::long(said, word_at(&out, 1020));
     // the bytes past the sheet stay
@@ -88,13 +88,13 @@ pub fn rooms(said: bool) -> bool {
     let mut out = [0u8; 1024];
     let said = say::word(said, b"short output");
     let mut less = [7u8; 1023];
-    let said = say::number(said, sheet::write(&kinds, 0, &events, &mut less));
+    let said = say::number(said, lent_sheet::write(&kinds, 0, &events, &mut less));
     let said = say::long(said, wide(less[0]));
     let said = say::end(said);
-    sheet::write(&kinds, 77, &events, &mut out);
+    lent_sheet::write(&kinds, 77, &events, &mut out);
     let mut ks = [5u32; 3];
     let mut es = [[6u32; 4]; 2];
-    let found = sheet::read(&out, &mut ks, &mut es);
+    let found = lent_sheet::read(&out, &mut ks, &mut es);
     let e = es[0];
     let rest = es[1];
     let said = say::word(said, b"read");
@@ -111,7 +111,7 @@ pub fn rooms(said: bool) -> bool {
     let said = say::number(said, rest[0]);
     let said = say::end(said);
     let mut one = [5u32; 1];
-    let short = sheet::read(&out, &mut one, &mut es);
+    let short = lent_sheet::read(&out, &mut one, &mut es);
     let said = say::word(said, b"short room");
     let said = say::number(said, short.number);
     let said = say::number(said, short.block);
@@ -126,21 +126,21 @@ pub fn full(said: bool) -> bool {
     let events = [FIRST; 3780];
     let mut out = [0u8; 32768];
     let said = say::word(said, b"full");
-    let said = say::number(said, sheet::write(&kinds, 5, &events, &mut out));
+    let said = say::number(said, lent_sheet::write(&kinds, 5, &events, &mut out));
     let said = tested(said, &out[..32768]);
     let more = [FIRST; 3781];
     let said = say::word(said, b"one too many");
-    let said = say::number(said, sheet::write(&kinds, 5, &more, &mut out));
+    let said = say::number(said, lent_sheet::write(&kinds, 5, &more, &mut out));
     let said = say::end(said);
     let number = [[32u32, 0, 31, 0]; 1];
     let post = [[1u32, 64, 31, 0]; 1];
     let answer = [[1u32, 0, 32, 0]; 1];
     let wrong = [0u32, 5, 1];
     let said = say::word(said, b"out of field");
-    let said = say::number(said, sheet::write(&kinds, 5, &number, &mut out));
-    let said = say::number(said, sheet::write(&kinds, 5, &post, &mut out));
-    let said = say::number(said, sheet::write(&kinds, 5, &answer, &mut out));
-    let said = say::number(said, sheet::write(&wrong, 5, &answer, &mut out));
+    let said = say::number(said, lent_sheet::write(&kinds, 5, &number, &mut out));
+    let said = say::number(said, lent_sheet::write(&kinds, 5, &post, &mut out));
+    let said = say::number(said, lent_sheet::write(&kinds, 5, &answer, &mut out));
+    let said = say::number(said, lent_sheet::write(&wrong, 5, &answer, &mut out));
     say::end(said)
 }
 
@@ -162,13 +162,13 @@ pub fn damaged(said: bool) -> bool {
     let kinds = [0u32, 2, 4, 1];
     let events = [FIRST; 3780];
     let mut out = [0u8; 32768];
-    sheet::write(&kinds, 5, &events, &mut out);
+    lent_sheet::write(&kinds, 5, &events, &mut out);
     let mut b: usize = 0;
     let mut right: u64 = 0;
     while b < 64 {
         let at = b * 512 + 8;
         out[at] = out[at] ^ 1;
-        let v = sheet::test(&out);
+        let v = lent_sheet::test(&out);
         right = right + named(v.number, v.block, b);
         out[at] = out[at] ^ 1;
         b += 1;
@@ -185,7 +185,7 @@ pub fn upper(said: bool) -> bool {
     let kinds = [0u32, 1];
     let events = [[1u32, 0, 31, 66536]; 120];
     let mut out = [0u8; 1536];
-    sheet::write(&kinds, 0, &events, &mut out);
+    lent_sheet::write(&kinds, 0, &events, &mut out);
     // events 7 and 9 of block 2: their words at 1084 and 1100
     out[1086] = 1;
     out[1090] = 0;

@@ -85,10 +85,10 @@ pub fn is_hindered(circuit: u32, number: u32, word: u32) -> bool
 pub fn work_on(p: Post, o: Post, w: u32, circuit: u32, s: Head, number: u32, stamp: u32) -> Worked
     ensures { λ r. ⌜ r ≡ workOn circuit s number stamp p o w ⌝ }
 {
-    let alone = relay::gate::work(p, o, s, number, stamp);
+    let alone = step::gate::work(p, o, s, number, stamp);
     let busy = is_hindered(circuit, number, w);
     if (alone.told.answer == relay::TAKEN) & busy {
-        let told = relay::gate::refuse(crate::CIRCUIT_BUSY, s);
+        let told = step::gate::refuse(crate::CIRCUIT_BUSY, s);
         return Worked {
             told: told,
             here: p,

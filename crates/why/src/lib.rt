@@ -125,7 +125,7 @@ pub fn since_when(s: &[u8], position: u32) -> Since
 {
     let mut kinds = [0u32; 32];
     let mut events = [[0u32; 4]; MOST_ENTRIES];
-    let found = sheet::read(s, &mut kinds, &mut events);
+    let found = lent_sheet::read(s, &mut kinds, &mut events);
     if found.number != 0 {
         return tell(found.number, found.block, found.position);
     }

@@ -104,7 +104,7 @@ fn begin_two(table: &[u32], stamp: u32) -> StoodTwo
     let n = table.len() / 2;
     if table.len() % 2 != 1 {
         let none = no_row();
-        let told = relay::gate::tell(relay::NOT_VALID, 0, 0);
+        let told = step::gate::tell(relay::NOT_VALID, 0, 0);
         return StoodTwo {
             told: told,
             first: none,
@@ -132,7 +132,7 @@ fn begin(tracks: u32, table: &[u32], stamp: u32) -> StoodTwo
             second: none,
         };
     }
-    let told = relay::gate::tell(relay::NOT_VALID, 0, 0);
+    let told = step::gate::tell(relay::NOT_VALID, 0, 0);
     StoodTwo {
         told: told,
         first: none,
@@ -263,7 +263,7 @@ pub fn work(s: &[u8], out: &mut [u8]) -> Worked
 {
     let mut kinds = [0u32; 32];
     let mut events = [[0u32; 4]; MOST_ENTRIES];
-    let found = sheet::read(s, &mut kinds, &mut events);
+    let found = lent_sheet::read(s, &mut kinds, &mut events);
     if found.number != 0 {
         return refuse(found.number, found.block, found.position);
     }
@@ -277,7 +277,7 @@ pub fn work(s: &[u8], out: &mut [u8]) -> Worked
         return refuse(ROOM_SHORT, 0, 0);
     }
     let ran = run(&kinds[..n], found.stamp, &mut events[..m]);
-    sheet::write(&kinds[..n], found.stamp, &events[..m], out);
+    lent_sheet::write(&kinds[..n], found.stamp, &events[..m], out);
     let row = ran.row;
     let head = ran.head;
     Worked {
@@ -324,12 +324,12 @@ pub fn work_tracks(s: &[u8], out: &mut [u8]) -> WorkedTracks
     let mut table = [0u32; MOST_TABLE];
     let mut events = [[0u32; 4]; MOST_ENTRIES];
     let mut on = [0u32; MOST_ENTRIES];
-    let found = sheet::read_tracks(s, &mut table, &mut events, &mut on);
+    let found = lent_sheet::read_tracks(s, &mut table, &mut events, &mut on);
     if found.number != 0 {
         return refuse_tracks(found.number, found.block, found.position);
     }
     let tracks = found.tracks;
-    let k = sheet::table_words(tracks, found.posts);
+    let k = lent_sheet::table_words(tracks, found.posts);
     let m = found.events as usize;
     let i = first_answered(&events[..m]);
     if i < m {
@@ -339,7 +339,7 @@ pub fn work_tracks(s: &[u8], out: &mut [u8]) -> WorkedTracks
         return refuse_tracks(ROOM_SHORT, 0, 0);
     }
     let ran = run_tracks(tracks, &table[..k], found.stamp, &mut events[..m], &on[..m]);
-    sheet::write_tracks(
+    lent_sheet::write_tracks(
         tracks,
         &table[..k],
         found.stamp,

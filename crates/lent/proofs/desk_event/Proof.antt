@@ -68,22 +68,22 @@ use Rattle.lent.proofs.desk_valid as valid-fn
 use Rattle.lent.proofs.desk_valid.Symbol as valid-def
 use Rattle.lent.proofs.desk_valid.Symbol.{name as #lent·desk-valid}
 use Rattle.lent.proofs.desk_valid.Met as valid-thm
-use Rattle.relay.proofs.gate.refuse as refuse
-use Rattle.relay.proofs.gate.refuse.Symbol as refuse-def
-use Rattle.relay.proofs.gate.refuse.Symbol.{name as #relay·gate·refuse}
-use Rattle.relay.proofs.gate.refuse.Met as refuse-thm
-use Rattle.relay.proofs.gate.gate_refusal as gate-fn
-use Rattle.relay.proofs.gate.gate_refusal.Symbol as gate-def
-use Rattle.relay.proofs.gate.gate_refusal.Symbol.{name as #relay·gate·gate-refusal}
-use Rattle.relay.proofs.gate.gate_refusal.Met as gate-thm
-use Rattle.relay.proofs.gate.neighbour_of as near
-use Rattle.relay.proofs.gate.neighbour_of.Symbol as near-def
-use Rattle.relay.proofs.gate.neighbour_of.Symbol.{name as #relay·gate·neighbour-of}
-use Rattle.relay.proofs.gate.neighbour_of.Met as near-thm
-use Rattle.relay.proofs.gate.work as work
-use Rattle.relay.proofs.gate.work.Symbol as work-def
-use Rattle.relay.proofs.gate.work.Symbol.{name as #relay·gate·work}
-use Rattle.relay.proofs.gate.work.Met as work-thm
+use Rattle.step.proofs.gate.refuse as refuse
+use Rattle.step.proofs.gate.refuse.Symbol as refuse-def
+use Rattle.step.proofs.gate.refuse.Symbol.{name as #step·gate·refuse}
+use Rattle.step.proofs.gate.refuse.Met as refuse-thm
+use Rattle.step.proofs.gate.gate_refusal as gate-fn
+use Rattle.step.proofs.gate.gate_refusal.Symbol as gate-def
+use Rattle.step.proofs.gate.gate_refusal.Symbol.{name as #step·gate·gate-refusal}
+use Rattle.step.proofs.gate.gate_refusal.Met as gate-thm
+use Rattle.step.proofs.gate.neighbour_of as near
+use Rattle.step.proofs.gate.neighbour_of.Symbol as near-def
+use Rattle.step.proofs.gate.neighbour_of.Symbol.{name as #step·gate·neighbour-of}
+use Rattle.step.proofs.gate.neighbour_of.Met as near-thm
+use Rattle.step.proofs.gate.work as work
+use Rattle.step.proofs.gate.work.Symbol as work-def
+use Rattle.step.proofs.gate.work.Symbol.{name as #step·gate·work}
+use Rattle.step.proofs.gate.work.Met as work-thm
 use Rattle.lent.proofs.desk_event.Key.{name as #lent·desk-event}
 use Rattle.lent.proofs.desk_event as f
 use Rattle.lent.proofs.desk_event.Statement as stated
@@ -209,7 +209,7 @@ module _ {M : Type 1} (𝓤 : URA M) (H : Heap 𝓤) (A : Atoms 𝓤) (W : Given
   }
 
   module _ (C : Calls 𝓤 H) (Λ : Loops 𝓤 H) (fm : FmC 𝓤 H (W .laws) C)
-      (known-valid : Triple 𝓤 (C #lent·desk-valid) (Valid 𝓤 H A mem run)) (known-refuse : Triple 𝓤 (C #relay·gate·refuse) (Refuse 𝓤 H A mem run)) (known-gate : Triple 𝓤 (C #relay·gate·gate-refusal) (Gate 𝓤 H A mem run)) (known-near : Triple 𝓤 (C #relay·gate·neighbour-of) (Near 𝓤 H A mem run)) (known-work : Triple 𝓤 (C #relay·gate·work) (Work 𝓤 H A mem run)) where
+      (known-valid : Triple 𝓤 (C #lent·desk-valid) (Valid 𝓤 H A mem run)) (known-refuse : Triple 𝓤 (C #step·gate·refuse) (Refuse 𝓤 H A mem run)) (known-gate : Triple 𝓤 (C #step·gate·gate-refusal) (Gate 𝓤 H A mem run)) (known-near : Triple 𝓤 (C #step·gate·neighbour-of) (Near 𝓤 H A mem run)) (known-work : Triple 𝓤 (C #step·gate·work) (Work 𝓤 H A mem run)) where
     walk : ent 𝓤 (onEntry 𝓤 H A f.signature (κ, tt) (q, tt) (bound .0 .3) args) (WpFn 𝓤 H C Λ code.function (sv ∷ S′.lowered hd ∷ vint w32 number ∷ vint w32 i ∷ vint w32 stamp ∷ []) Post′)
     walk =
         qed W ((‵ (flft κ q) ⊛ ‵ ftrue) ∷ ‵ (owns (MutSlice (named 0) κ T.the-row ∷ S.the-row ∷ u32 ∷ u32 ∷ u32 ∷ []) (bound .0 .3) args) ∷ []) ∵ enter ! C Λ code.function (sv ∷ S′.lowered hd ∷ vint w32 number ∷ vint w32 i ∷ vint w32 stamp ∷ []) _ $
@@ -291,7 +291,7 @@ module _ {M : Type 1} (𝓤 : URA M) (H : Heap 𝓤) (A : Atoms 𝓤) (W : Given
         by ! (exits (r .told) _ (stored ys number i r) (fields .0) (ap (λ (u : Worked). u .told) er ∙ sym (ap (λ (u : After). u .told) is-r), ap (stored ys number i) er ∙ sym (ap (λ (u : After). u .line) is-r)) (long r)))))))))))))))))))))))))))))))))))
 
 module _ {M : Type 1} (𝓤 : URA M) (H : Heap 𝓤) (A : Atoms 𝓤) (W : Given 𝓤 H A) (mem : Memory → SProp 𝓤) (run : Routine → Fun 𝓤) (𝓣 : Tables 𝓤 H)
-    (known-valid : Triple 𝓤 (𝓣 .C #lent·desk-valid) (Valid 𝓤 H A mem run)) (known-refuse : Triple 𝓤 (𝓣 .C #relay·gate·refuse) (Refuse 𝓤 H A mem run)) (known-gate : Triple 𝓤 (𝓣 .C #relay·gate·gate-refusal) (Gate 𝓤 H A mem run)) (known-near : Triple 𝓤 (𝓣 .C #relay·gate·neighbour-of) (Near 𝓤 H A mem run)) (known-work : Triple 𝓤 (𝓣 .C #relay·gate·work) (Work 𝓤 H A mem run)) where
+    (known-valid : Triple 𝓤 (𝓣 .C #lent·desk-valid) (Valid 𝓤 H A mem run)) (known-refuse : Triple 𝓤 (𝓣 .C #step·gate·refuse) (Refuse 𝓤 H A mem run)) (known-gate : Triple 𝓤 (𝓣 .C #step·gate·gate-refusal) (Gate 𝓤 H A mem run)) (known-near : Triple 𝓤 (𝓣 .C #step·gate·neighbour-of) (Near 𝓤 H A mem run)) (known-work : Triple 𝓤 (𝓣 .C #step·gate·work) (Work 𝓤 H A mem run)) where
   walks : Walks 𝓤 H A f.ended stayed (WpFn 𝓤 H (𝓣 .C) (𝓣 .Λ) code.function) (f.clauses 𝓤 H A mem run)
   walks = walked 𝓤 H A f.ended stayed (f.clauses 𝓤 H A mem run) (WpFn 𝓤 H (𝓣 .C) (𝓣 .Λ) code.function) (λ κs. (slice-vals, (LL.vals S.the-type S′.the-laws, (uint-vals w32, (uint-vals w32, (uint-vals w32, tt))))))
       (λ κs. (mut-slice-tells (named 0) (κs .0) T.the-row, (LL.tells S.the-type S′.the-laws, (uint-tells w32, (uint-tells w32, (uint-tells w32, tt))))))
@@ -310,7 +310,7 @@ desk-event-spec 𝓤 H 𝓜 𝓖 𝓡 =
     (tables 𝓤 H 𝓜 𝓡 code.env .C) (tables 𝓤 H 𝓜 𝓡 code.env .Λ) #lent·desk-event code.function (code.unfolded 𝓤 H 𝓜 𝓡)
     (meets 𝓤 H (𝓖 .A) (givenOf 𝓤 H 𝓜 𝓖) (𝓜 .mem) (𝓡 .run) (tablesOf 𝓤 H 𝓜 (tables 𝓤 H 𝓜 𝓡 code.env))
     (cited 𝓤 H (Valid 𝓤 H (𝓖 .A) (𝓜 .mem) (𝓡 .run)) 𝓜 𝓡 code.env #lent·desk-valid valid-def.routine code.calls-lent·desk-valid (valid-thm.met 𝓤 H 𝓜 𝓖 𝓡))
-    (cited 𝓤 H (Refuse 𝓤 H (𝓖 .A) (𝓜 .mem) (𝓡 .run)) 𝓜 𝓡 code.env #relay·gate·refuse refuse-def.routine code.calls-relay·gate·refuse (refuse-thm.met 𝓤 H 𝓜 𝓖 𝓡))
-    (cited 𝓤 H (Gate 𝓤 H (𝓖 .A) (𝓜 .mem) (𝓡 .run)) 𝓜 𝓡 code.env #relay·gate·gate-refusal gate-def.routine code.calls-relay·gate·gate-refusal (gate-thm.met 𝓤 H 𝓜 𝓖 𝓡))
-    (cited 𝓤 H (Near 𝓤 H (𝓖 .A) (𝓜 .mem) (𝓡 .run)) 𝓜 𝓡 code.env #relay·gate·neighbour-of near-def.routine code.calls-relay·gate·neighbour-of (near-thm.met 𝓤 H 𝓜 𝓖 𝓡))
-    (cited 𝓤 H (Work 𝓤 H (𝓖 .A) (𝓜 .mem) (𝓡 .run)) 𝓜 𝓡 code.env #relay·gate·work work-def.routine code.calls-relay·gate·work (work-thm.met 𝓤 H 𝓜 𝓖 𝓡)))
+    (cited 𝓤 H (Refuse 𝓤 H (𝓖 .A) (𝓜 .mem) (𝓡 .run)) 𝓜 𝓡 code.env #step·gate·refuse refuse-def.routine code.calls-step·gate·refuse (refuse-thm.met 𝓤 H 𝓜 𝓖 𝓡))
+    (cited 𝓤 H (Gate 𝓤 H (𝓖 .A) (𝓜 .mem) (𝓡 .run)) 𝓜 𝓡 code.env #step·gate·gate-refusal gate-def.routine code.calls-step·gate·gate-refusal (gate-thm.met 𝓤 H 𝓜 𝓖 𝓡))
+    (cited 𝓤 H (Near 𝓤 H (𝓖 .A) (𝓜 .mem) (𝓡 .run)) 𝓜 𝓡 code.env #step·gate·neighbour-of near-def.routine code.calls-step·gate·neighbour-of (near-thm.met 𝓤 H 𝓜 𝓖 𝓡))
+    (cited 𝓤 H (Work 𝓤 H (𝓖 .A) (𝓜 .mem) (𝓡 .run)) 𝓜 𝓡 code.env #step·gate·work work-def.routine code.calls-step·gate·work (work-thm.met 𝓤 H 𝓜 𝓖 𝓡)))

@@ -64,10 +64,10 @@ use Rattle.relay.proofs.Post as T
 use Rattle.relay.proofs.Post.Laws as T′
 use Rattle.relay.proofs.Told as R
 use Rattle.relay.proofs.Told.Laws as R′
-use Rattle.relay.proofs.gate.tell as tell
-use Rattle.relay.proofs.gate.tell.Symbol as tell-def
-use Rattle.relay.proofs.gate.tell.Symbol.{name as #relay·gate·tell}
-use Rattle.relay.proofs.gate.tell.Met as tell-thm
+use Rattle.step.proofs.gate.tell as tell
+use Rattle.step.proofs.gate.tell.Symbol as tell-def
+use Rattle.step.proofs.gate.tell.Symbol.{name as #step·gate·tell}
+use Rattle.step.proofs.gate.tell.Met as tell-thm
 use Rattle.line.proofs.may_start as may
 use Rattle.line.proofs.may_start.Symbol as may-def
 use Rattle.line.proofs.may_start.Symbol.{name as #line·may-start}
@@ -182,7 +182,7 @@ module _ {M : Type 1} (𝓤 : URA M) (H : Heap 𝓤) (A : Atoms 𝓤) (W : Given
   may-of : (r : Bool) → ent 𝓤 (ensured 𝓤 H A may.ended (may.clauses 𝓤 H A mem run) (κ′, tt) (n, (y, tt)) tt r) (fact 𝓤 (r ≡ (eqb n (length ks) && tableOk ks)))
   may-of r = exE 𝓤 _ (λ ws. snd∗ 𝓤 (sem 𝓤 H A (lasts may.ended (κ′, tt) (n, (y, tt)) ws)) (fact 𝓤 (r ≡ (eqb n (length ks) && tableOk ks))))
 
-  module _ (𝓣 : Tables 𝓤 H) (known-may : Triple 𝓤 (𝓣 .C #line·may-start) (May 𝓤 H A mem run)) (known-tell : Triple 𝓤 (𝓣 .C #relay·gate·tell) (Tell 𝓤 H A mem run)) (known-fresh : Triple 𝓤 (𝓣 .C #line·fresh) (Fresh 𝓤 H A mem run)) where
+  module _ (𝓣 : Tables 𝓤 H) (known-may : Triple 𝓤 (𝓣 .C #line·may-start) (May 𝓤 H A mem run)) (known-tell : Triple 𝓤 (𝓣 .C #step·gate·tell) (Tell 𝓤 H A mem run)) (known-fresh : Triple 𝓤 (𝓣 .C #line·fresh) (Fresh 𝓤 H A mem run)) where
     abbrev C : Calls 𝓤 H
     C = 𝓣 .C
 
@@ -281,7 +281,7 @@ module _ {M : Type 1} (𝓤 : URA M) (H : Heap 𝓤) (A : Atoms 𝓤) (W : Given
         (record { i = 0; so = ys; long = refl; inv = covers ks ys (same-length ys ks (sym er ∙ not-false r yes′)) }))))))))))))))))))))))
 
 module _ {M : Type 1} (𝓤 : URA M) (H : Heap 𝓤) (A : Atoms 𝓤) (W : Given 𝓤 H A) (mem : Memory → SProp 𝓤) (run : Routine → Fun 𝓤) (𝓣 : Tables 𝓤 H)
-    (known-may : Triple 𝓤 (𝓣 .C #line·may-start) (May 𝓤 H A mem run)) (known-tell : Triple 𝓤 (𝓣 .C #relay·gate·tell) (Tell 𝓤 H A mem run)) (known-fresh : Triple 𝓤 (𝓣 .C #line·fresh) (Fresh 𝓤 H A mem run)) where
+    (known-may : Triple 𝓤 (𝓣 .C #line·may-start) (May 𝓤 H A mem run)) (known-tell : Triple 𝓤 (𝓣 .C #step·gate·tell) (Tell 𝓤 H A mem run)) (known-fresh : Triple 𝓤 (𝓣 .C #line·fresh) (Fresh 𝓤 H A mem run)) where
   walks : Walks 𝓤 H A f.ended stayed (WpFn 𝓤 H (𝓣 .C) (𝓣 .Λ) code.function) (f.clauses 𝓤 H A mem run)
   walks = walked 𝓤 H A f.ended stayed (f.clauses 𝓤 H A mem run) (WpFn 𝓤 H (𝓣 .C) (𝓣 .Λ) code.function) (λ κs. (slice-vals, (slice-vals, (uint-vals w32, tt)))) (λ κs. (mut-slice-tells (named 0) (κs .0) T.the-row, (shr-slice-tells (named 1) (κs .1 .0) u32, (uint-tells w32, tt))))
       (λ κs qs bounds a g are. via 𝓤 _ (fst∗ 𝓤 _ (emp 𝓤))
@@ -299,5 +299,5 @@ desk-start-spec 𝓤 H 𝓜 𝓖 𝓡 =
     (tables 𝓤 H 𝓜 𝓡 code.env .C) (tables 𝓤 H 𝓜 𝓡 code.env .Λ) #lent·desk-start code.function (code.unfolded 𝓤 H 𝓜 𝓡)
     (meets 𝓤 H (𝓖 .A) (givenOf 𝓤 H 𝓜 𝓖) (𝓜 .mem) (𝓡 .run) (tablesOf 𝓤 H 𝓜 (tables 𝓤 H 𝓜 𝓡 code.env))
     (cited 𝓤 H (May 𝓤 H (𝓖 .A) (𝓜 .mem) (𝓡 .run)) 𝓜 𝓡 code.env #line·may-start may-def.routine code.calls-line·may-start (may-thm.met 𝓤 H 𝓜 𝓖 𝓡))
-    (cited 𝓤 H (Tell 𝓤 H (𝓖 .A) (𝓜 .mem) (𝓡 .run)) 𝓜 𝓡 code.env #relay·gate·tell tell-def.routine code.calls-relay·gate·tell (tell-thm.met 𝓤 H 𝓜 𝓖 𝓡))
+    (cited 𝓤 H (Tell 𝓤 H (𝓖 .A) (𝓜 .mem) (𝓡 .run)) 𝓜 𝓡 code.env #step·gate·tell tell-def.routine code.calls-step·gate·tell (tell-thm.met 𝓤 H 𝓜 𝓖 𝓡))
     (cited 𝓤 H (Fresh 𝓤 H (𝓖 .A) (𝓜 .mem) (𝓡 .run)) 𝓜 𝓡 code.env #line·fresh fresh-def.routine code.calls-line·fresh (fresh-thm.met 𝓤 H 𝓜 𝓖 𝓡)))

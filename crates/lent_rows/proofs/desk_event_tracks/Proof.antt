@@ -63,10 +63,10 @@ use Rattle.lent_rows.proofs.desk_valid_tracks.Met as two-thm
 use Rattle.lent_rows.proofs.event_on.Symbol as on-def
 use Rattle.lent_rows.proofs.event_on.Symbol.{name as #lent-rows·event-on}
 use Rattle.lent_rows.proofs.event_on.Met as on-thm
-use Rattle.relay.proofs.gate.refuse as refuse
-use Rattle.relay.proofs.gate.refuse.Symbol as refuse-def
-use Rattle.relay.proofs.gate.refuse.Symbol.{name as #relay·gate·refuse}
-use Rattle.relay.proofs.gate.refuse.Met as refuse-thm
+use Rattle.step.proofs.gate.refuse as refuse
+use Rattle.step.proofs.gate.refuse.Symbol as refuse-def
+use Rattle.step.proofs.gate.refuse.Symbol.{name as #step·gate·refuse}
+use Rattle.step.proofs.gate.refuse.Met as refuse-thm
 use Rattle.tracks.proofs.circuit.no_track as none-fn
 use Rattle.tracks.proofs.circuit.no_track.Symbol as none-def
 use Rattle.tracks.proofs.circuit.no_track.Symbol.{name as #tracks·circuit·no-track}
@@ -156,7 +156,7 @@ module _ {M : Type 1} (𝓤 : URA M) (H : Heap 𝓤) (A : Atoms 𝓤) (W : Given
   }
 
   module _ (C : Calls 𝓤 H) (Λ : Loops 𝓤 H) (fm : FmC 𝓤 H (W .laws) C)
-      (known-two : Triple 𝓤 (C #lent-rows·desk-valid-tracks) (Two 𝓤 H A mem run)) (known-on : Triple 𝓤 (C #lent-rows·event-on) (On 𝓤 H A mem run)) (known-refuse : Triple 𝓤 (C #relay·gate·refuse) (Refuse 𝓤 H A mem run)) (known-none : Triple 𝓤 (C #tracks·circuit·no-track) (None 𝓤 H A mem run)) where
+      (known-two : Triple 𝓤 (C #lent-rows·desk-valid-tracks) (Two 𝓤 H A mem run)) (known-on : Triple 𝓤 (C #lent-rows·event-on) (On 𝓤 H A mem run)) (known-refuse : Triple 𝓤 (C #step·gate·refuse) (Refuse 𝓤 H A mem run)) (known-none : Triple 𝓤 (C #tracks·circuit·no-track) (None 𝓤 H A mem run)) where
     module _ (no₀ : track ≡ 0 → ⊥) (no₁ : track ≡ 1 → ⊥) (l₀ l₁ l₂ l₃ l₄ l₅ l₆ l₇ l₈ l₉ m₀ m₁ m₂ m₃ m₄ m₅ m₆ m₇ m₈ m₉ k₀ k₁ k₂ k₃ : ℕ) where
       abbrev En : Env 𝓤 H
       En = envOf 𝓤 H (code.function .locals) (l₀ ∷ l₁ ∷ l₂ ∷ l₃ ∷ l₄ ∷ l₅ ∷ l₆ ∷ l₇ ∷ l₈ ∷ l₉ ∷ m₀ ∷ m₁ ∷ m₂ ∷ m₃ ∷ m₄ ∷ m₅ ∷ m₆ ∷ m₇ ∷ m₈ ∷ m₉ ∷ k₀ ∷ k₁ ∷ k₂ ∷ k₃ ∷ [])
@@ -239,7 +239,7 @@ module _ {M : Type 1} (𝓤 : URA M) (H : Heap 𝓤) (A : Atoms 𝓤) (W : Given
         (λ no₁. forget ! (h 4 9) refl $ neither (eqb-false track 0 no₀) (eqb-false track 1 no₁) l₀ l₁ l₂ l₃ l₄ l₅ l₆ l₇ l₈ l₉ m₀ m₁ m₂ m₃ m₄ m₅ m₆ m₇ m₈ m₉ k₀ k₁ k₂ k₃))))))))))))))))))))))))))
 
 module _ {M : Type 1} (𝓤 : URA M) (H : Heap 𝓤) (A : Atoms 𝓤) (W : Given 𝓤 H A) (mem : Memory → SProp 𝓤) (run : Routine → Fun 𝓤) (𝓣 : Tables 𝓤 H)
-    (known-two : Triple 𝓤 (𝓣 .C #lent-rows·desk-valid-tracks) (Two 𝓤 H A mem run)) (known-on : Triple 𝓤 (𝓣 .C #lent-rows·event-on) (On 𝓤 H A mem run)) (known-refuse : Triple 𝓤 (𝓣 .C #relay·gate·refuse) (Refuse 𝓤 H A mem run)) (known-none : Triple 𝓤 (𝓣 .C #tracks·circuit·no-track) (None 𝓤 H A mem run)) where
+    (known-two : Triple 𝓤 (𝓣 .C #lent-rows·desk-valid-tracks) (Two 𝓤 H A mem run)) (known-on : Triple 𝓤 (𝓣 .C #lent-rows·event-on) (On 𝓤 H A mem run)) (known-refuse : Triple 𝓤 (𝓣 .C #step·gate·refuse) (Refuse 𝓤 H A mem run)) (known-none : Triple 𝓤 (𝓣 .C #tracks·circuit·no-track) (None 𝓤 H A mem run)) where
   walks : Walks 𝓤 H A f.ended stayed (WpFn 𝓤 H (𝓣 .C) (𝓣 .Λ) code.function) (f.clauses 𝓤 H A mem run)
   walks = walked 𝓤 H A f.ended stayed (f.clauses 𝓤 H A mem run) (WpFn 𝓤 H (𝓣 .C) (𝓣 .Λ) code.function) (λ κs. (slice-vals, (slice-vals, (uint-vals w32, (LL.vals S.the-type S′.the-laws, (uint-vals w32, (uint-vals w32, (uint-vals w32, (uint-vals w32, tt)))))))))
       (λ κs. (mut-slice-tells (named 0) (κs .0) T.the-row, (mut-slice-tells (named 1) (κs .1 .0) T.the-row, (uint-tells w32, (LL.tells S.the-type S′.the-laws, (uint-tells w32, (uint-tells w32, (uint-tells w32, (uint-tells w32, tt)))))))))
@@ -260,5 +260,5 @@ desk-event-tracks-spec 𝓤 H 𝓜 𝓖 𝓡 =
     (meets 𝓤 H (𝓖 .A) (givenOf 𝓤 H 𝓜 𝓖) (𝓜 .mem) (𝓡 .run) (tablesOf 𝓤 H 𝓜 (tables 𝓤 H 𝓜 𝓡 code.env))
     (cited 𝓤 H (Two 𝓤 H (𝓖 .A) (𝓜 .mem) (𝓡 .run)) 𝓜 𝓡 code.env #lent-rows·desk-valid-tracks two-def.routine code.calls-lent-rows·desk-valid-tracks (two-thm.met 𝓤 H 𝓜 𝓖 𝓡))
     (cited 𝓤 H (On 𝓤 H (𝓖 .A) (𝓜 .mem) (𝓡 .run)) 𝓜 𝓡 code.env #lent-rows·event-on on-def.routine code.calls-lent-rows·event-on (on-thm.met 𝓤 H 𝓜 𝓖 𝓡))
-    (cited 𝓤 H (Refuse 𝓤 H (𝓖 .A) (𝓜 .mem) (𝓡 .run)) 𝓜 𝓡 code.env #relay·gate·refuse refuse-def.routine code.calls-relay·gate·refuse (refuse-thm.met 𝓤 H 𝓜 𝓖 𝓡))
+    (cited 𝓤 H (Refuse 𝓤 H (𝓖 .A) (𝓜 .mem) (𝓡 .run)) 𝓜 𝓡 code.env #step·gate·refuse refuse-def.routine code.calls-step·gate·refuse (refuse-thm.met 𝓤 H 𝓜 𝓖 𝓡))
     (cited 𝓤 H (None 𝓤 H (𝓖 .A) (𝓜 .mem) (𝓡 .run)) 𝓜 𝓡 code.env #tracks·circuit·no-track none-def.routine code.calls-tracks·circuit·no-track (none-thm.met 𝓤 H 𝓜 𝓖 𝓡)))

@@ -58,10 +58,10 @@ use Rattle.lent_rows.proofs.may_start_tracks.Met as may-thm
 use Rattle.lent.proofs.desk_start.Symbol as start-def
 use Rattle.lent.proofs.desk_start.Symbol.{name as #lent·desk-start}
 use Rattle.lent.proofs.desk_start.Met as start-thm
-use Rattle.relay.proofs.gate.tell as tell
-use Rattle.relay.proofs.gate.tell.Symbol as tell-def
-use Rattle.relay.proofs.gate.tell.Symbol.{name as #relay·gate·tell}
-use Rattle.relay.proofs.gate.tell.Met as tell-thm
+use Rattle.step.proofs.gate.tell as tell
+use Rattle.step.proofs.gate.tell.Symbol as tell-def
+use Rattle.step.proofs.gate.tell.Symbol.{name as #step·gate·tell}
+use Rattle.step.proofs.gate.tell.Met as tell-thm
 use Rattle.lent_rows.proofs.desk_start_tracks.Key.{name as #lent-rows·desk-start-tracks}
 use Rattle.lent_rows.proofs.desk_start_tracks as f
 use Rattle.lent_rows.proofs.desk_start_tracks.Statement as stated
@@ -145,7 +145,7 @@ module _ {M : Type 1} (𝓤 : URA M) (H : Heap 𝓤) (A : Atoms 𝓤) (W : Given
     tells = λ r. exE 𝓤 _ (λ ws. snd∗ 𝓤 (sem 𝓤 H A (lasts tell.ended tt (a, (m, (l, tt))) ws)) (fact 𝓤 (r ≡ told a (head m l))));
   }
 
-  module _ (C : Calls 𝓤 H) (Λ : Loops 𝓤 H) (fm : FmC 𝓤 H (W .laws) C) (known-may : Triple 𝓤 (C #lent-rows·may-start-tracks) (May 𝓤 H A mem run)) (known-start : Triple 𝓤 (C #lent·desk-start) (Start 𝓤 H A mem run)) (known-tell : Triple 𝓤 (C #relay·gate·tell) (Tell 𝓤 H A mem run)) where
+  module _ (C : Calls 𝓤 H) (Λ : Loops 𝓤 H) (fm : FmC 𝓤 H (W .laws) C) (known-may : Triple 𝓤 (C #lent-rows·may-start-tracks) (May 𝓤 H A mem run)) (known-start : Triple 𝓤 (C #lent·desk-start) (Start 𝓤 H A mem run)) (known-tell : Triple 𝓤 (C #step·gate·tell) (Tell 𝓤 H A mem run)) where
     walk : ent 𝓤 (onEntry 𝓤 H A f.signature (κ₁, (κ₂, (κ₃, (κ₄, tt)))) (q₁, (q₂, (q₃, (q₄, tt)))) (bound .0 .3) args) (WpFn 𝓤 H C Λ code.function (sv ∷ tv ∷ kv ∷ jv ∷ vint w32 circuit ∷ vint w32 stamp ∷ []) Post′)
     walk =
         qed W ((‵ (flft κ₁ q₁) ⊛ (‵ (flft κ₂ q₂) ⊛ (‵ (flft κ₃ q₃) ⊛ (‵ (flft κ₄ q₄) ⊛ ‵ ftrue)))) ∷ ‵ (owns (MutSlice (named 0) κ₁ T.the-row ∷ MutSlice (named 1) κ₂ T.the-row ∷ ShrSlice (named 2) κ₃ u32 ∷ ShrSlice (named 3) κ₄ u32 ∷ u32 ∷ u32 ∷ []) (bound .0 .3) args) ∷ []) ∵ enter ! C Λ code.function (sv ∷ tv ∷ kv ∷ jv ∷ vint w32 circuit ∷ vint w32 stamp ∷ []) _ $
@@ -188,7 +188,7 @@ module _ {M : Type 1} (𝓤 : URA M) (H : Heap 𝓤) (A : Atoms 𝓤) (W : Given
         returns ! (look ! (h 6 0) refl) $ move ! (span 32 6) $ all-left ! (code.function .locals) (l₀ ∷ l₁ ∷ l₂ ∷ l₃ ∷ l₄ ∷ l₅ ∷ l₆ ∷ l₇ ∷ l₈ ∷ l₉ ∷ m₀ ∷ m₁ ∷ m₂ ∷ m₃ ∷ m₄ ∷ m₅ ∷ []) (has _ ∷ has _ ∷ has _ ∷ has _ ∷ has _ ∷ has _ ∷ has _ ∷ has _ ∷ has _ ∷ has _ ∷ has _ ∷ has _ ∷ has _ ∷ has _ ∷ has _ ∷ has _ ∷ []) $
         move ! (3 ∷ 0 ∷ 4 ∷ 1 ∷ 5 ∷ 2 ∷ []) $ by ! (exits r w ls ls′ is (g .0 ∙ ap (λ (u : After). u .told) eq₂ ∙ sym (ap (λ (u : AfterTwo). u .told) eq), g₂ .1 ∙ ap (λ (u : After). u .line) eq₁ ∙ sym (ap (λ (u : AfterTwo). u .first) eq), g .1 ∙ ap (λ (u : After). u .line) eq₂ ∙ sym (ap (λ (u : AfterTwo). u .second) eq)) le₂ le)))))))))))))))))))))
 
-module _ {M : Type 1} (𝓤 : URA M) (H : Heap 𝓤) (A : Atoms 𝓤) (W : Given 𝓤 H A) (mem : Memory → SProp 𝓤) (run : Routine → Fun 𝓤) (𝓣 : Tables 𝓤 H) (known-may : Triple 𝓤 (𝓣 .C #lent-rows·may-start-tracks) (May 𝓤 H A mem run)) (known-start : Triple 𝓤 (𝓣 .C #lent·desk-start) (Start 𝓤 H A mem run)) (known-tell : Triple 𝓤 (𝓣 .C #relay·gate·tell) (Tell 𝓤 H A mem run)) where
+module _ {M : Type 1} (𝓤 : URA M) (H : Heap 𝓤) (A : Atoms 𝓤) (W : Given 𝓤 H A) (mem : Memory → SProp 𝓤) (run : Routine → Fun 𝓤) (𝓣 : Tables 𝓤 H) (known-may : Triple 𝓤 (𝓣 .C #lent-rows·may-start-tracks) (May 𝓤 H A mem run)) (known-start : Triple 𝓤 (𝓣 .C #lent·desk-start) (Start 𝓤 H A mem run)) (known-tell : Triple 𝓤 (𝓣 .C #step·gate·tell) (Tell 𝓤 H A mem run)) where
   walks : Walks 𝓤 H A f.ended stayed (WpFn 𝓤 H (𝓣 .C) (𝓣 .Λ) code.function) (f.clauses 𝓤 H A mem run)
   walks = walked 𝓤 H A f.ended stayed (f.clauses 𝓤 H A mem run) (WpFn 𝓤 H (𝓣 .C) (𝓣 .Λ) code.function) (λ κs. (slice-vals, (slice-vals, (slice-vals, (slice-vals, (uint-vals w32, (uint-vals w32, tt)))))))
       (λ κs. (mut-slice-tells (named 0) (κs .0) T.the-row, (mut-slice-tells (named 1) (κs .1 .0) T.the-row, (shr-slice-tells (named 2) (κs .1 .1 .0) u32, (shr-slice-tells (named 3) (κs .1 .1 .1 .0) u32, (uint-tells w32, (uint-tells w32, tt)))))))
@@ -210,4 +210,4 @@ desk-start-tracks-spec 𝓤 H 𝓜 𝓖 𝓡 =
     (meets 𝓤 H (𝓖 .A) (givenOf 𝓤 H 𝓜 𝓖) (𝓜 .mem) (𝓡 .run) (tablesOf 𝓤 H 𝓜 (tables 𝓤 H 𝓜 𝓡 code.env))
     (cited 𝓤 H (May 𝓤 H (𝓖 .A) (𝓜 .mem) (𝓡 .run)) 𝓜 𝓡 code.env #lent-rows·may-start-tracks may-def.routine code.calls-lent-rows·may-start-tracks (may-thm.met 𝓤 H 𝓜 𝓖 𝓡))
     (cited 𝓤 H (Start 𝓤 H (𝓖 .A) (𝓜 .mem) (𝓡 .run)) 𝓜 𝓡 code.env #lent·desk-start start-def.routine code.calls-lent·desk-start (start-thm.met 𝓤 H 𝓜 𝓖 𝓡))
-    (cited 𝓤 H (Tell 𝓤 H (𝓖 .A) (𝓜 .mem) (𝓡 .run)) 𝓜 𝓡 code.env #relay·gate·tell tell-def.routine code.calls-relay·gate·tell (tell-thm.met 𝓤 H 𝓜 𝓖 𝓡)))
+    (cited 𝓤 H (Tell 𝓤 H (𝓖 .A) (𝓜 .mem) (𝓡 .run)) 𝓜 𝓡 code.env #step·gate·tell tell-def.routine code.calls-step·gate·tell (tell-thm.met 𝓤 H 𝓜 𝓖 𝓡)))

@@ -71,18 +71,18 @@ use Rattle.lent_rows.proofs.Two.{Two, calls-two}
 use Rattle.lent_rows.proofs.desk_valid_tracks.Symbol as two-def
 use Rattle.lent_rows.proofs.desk_valid_tracks.Symbol.{name as #lent-rows·desk-valid-tracks}
 use Rattle.lent_rows.proofs.desk_valid_tracks.Met as two-thm
-use Rattle.relay.proofs.gate.refuse as refuse
-use Rattle.relay.proofs.gate.refuse.Symbol as refuse-def
-use Rattle.relay.proofs.gate.refuse.Symbol.{name as #relay·gate·refuse}
-use Rattle.relay.proofs.gate.refuse.Met as refuse-thm
-use Rattle.relay.proofs.gate.gate_refusal as gate-fn
-use Rattle.relay.proofs.gate.gate_refusal.Symbol as gate-def
-use Rattle.relay.proofs.gate.gate_refusal.Symbol.{name as #relay·gate·gate-refusal}
-use Rattle.relay.proofs.gate.gate_refusal.Met as gate-thm
-use Rattle.relay.proofs.gate.neighbour_of as near
-use Rattle.relay.proofs.gate.neighbour_of.Symbol as near-def
-use Rattle.relay.proofs.gate.neighbour_of.Symbol.{name as #relay·gate·neighbour-of}
-use Rattle.relay.proofs.gate.neighbour_of.Met as near-thm
+use Rattle.step.proofs.gate.refuse as refuse
+use Rattle.step.proofs.gate.refuse.Symbol as refuse-def
+use Rattle.step.proofs.gate.refuse.Symbol.{name as #step·gate·refuse}
+use Rattle.step.proofs.gate.refuse.Met as refuse-thm
+use Rattle.step.proofs.gate.gate_refusal as gate-fn
+use Rattle.step.proofs.gate.gate_refusal.Symbol as gate-def
+use Rattle.step.proofs.gate.gate_refusal.Symbol.{name as #step·gate·gate-refusal}
+use Rattle.step.proofs.gate.gate_refusal.Met as gate-thm
+use Rattle.step.proofs.gate.neighbour_of as near
+use Rattle.step.proofs.gate.neighbour_of.Symbol as near-def
+use Rattle.step.proofs.gate.neighbour_of.Symbol.{name as #step·gate·neighbour-of}
+use Rattle.step.proofs.gate.neighbour_of.Met as near-thm
 use Rattle.tracks.proofs.circuit.facing_of as face
 use Rattle.tracks.proofs.circuit.facing_of.Symbol as face-def
 use Rattle.tracks.proofs.circuit.facing_of.Symbol.{name as #tracks·circuit·facing-of}
@@ -233,7 +233,7 @@ module _ {M : Type 1} (𝓤 : URA M) (H : Heap 𝓤) (A : Atoms 𝓤) (W : Given
   }
 
   module _ (C : Calls 𝓤 H) (Λ : Loops 𝓤 H) (fm : FmC 𝓤 H (W .laws) C)
-      (known-two : Triple 𝓤 (C #lent-rows·desk-valid-tracks) (Two 𝓤 H A mem run)) (known-refuse : Triple 𝓤 (C #relay·gate·refuse) (Refuse 𝓤 H A mem run)) (known-gate : Triple 𝓤 (C #relay·gate·gate-refusal) (Gate 𝓤 H A mem run)) (known-near : Triple 𝓤 (C #relay·gate·neighbour-of) (Near 𝓤 H A mem run)) (known-face : Triple 𝓤 (C #tracks·circuit·facing-of) (Face 𝓤 H A mem run)) (known-work : Triple 𝓤 (C #tracks·circuit·work-on) (Work 𝓤 H A mem run)) where
+      (known-two : Triple 𝓤 (C #lent-rows·desk-valid-tracks) (Two 𝓤 H A mem run)) (known-refuse : Triple 𝓤 (C #step·gate·refuse) (Refuse 𝓤 H A mem run)) (known-gate : Triple 𝓤 (C #step·gate·gate-refusal) (Gate 𝓤 H A mem run)) (known-near : Triple 𝓤 (C #step·gate·neighbour-of) (Near 𝓤 H A mem run)) (known-face : Triple 𝓤 (C #tracks·circuit·facing-of) (Face 𝓤 H A mem run)) (known-work : Triple 𝓤 (C #tracks·circuit·work-on) (Work 𝓤 H A mem run)) where
     module _ (ev : validTwo circuit ys zs hd ≡ true) (eg : gate n hd number i stamp ≡ 0) (in₀ : i < n) (in₁ : j < n) (l₀ l₁ l₂ l₃ l₄ l₅ l₆ l₇ l₈ l₉ m₀ m₁ m₂ m₃ m₄ m₅ m₆ m₇ m₈ m₉ k₀ k₁ k₂ k₃ k₄ k₅ k₆ k₇ k₈ : ℕ) where
       abbrev En : Env 𝓤 H
       En = envOf 𝓤 H (code.function .locals) (l₀ ∷ l₁ ∷ l₂ ∷ l₃ ∷ l₄ ∷ l₅ ∷ l₆ ∷ l₇ ∷ l₈ ∷ l₉ ∷ m₀ ∷ m₁ ∷ m₂ ∷ m₃ ∷ m₄ ∷ m₅ ∷ m₆ ∷ m₇ ∷ m₈ ∷ m₉ ∷ k₀ ∷ k₁ ∷ k₂ ∷ k₃ ∷ k₄ ∷ k₅ ∷ k₆ ∷ k₇ ∷ k₈ ∷ [])
@@ -358,7 +358,7 @@ module _ {M : Type 1} (𝓤 : URA M) (H : Heap 𝓤) (A : Atoms 𝓤) (W : Given
         forget ! (h 5 9) refl $ forget ! (h 5 14) refl $ forget ! (h 5 15) refl $ forget ! (h 5 16) refl $ forget ! (h 5 17) refl $ works ev eg in₀ in₁ l₀ l₁ l₂ l₃ l₄ l₅ l₆ l₇ l₈ l₉ m₀ m₁ m₂ m₃ m₄ m₅ m₆ m₇ m₈ m₉ k₀ k₁ k₂ k₃ k₄ k₅ k₆ k₇ k₈ same in₃))))))))))))))))))))))))))))))))))
 
 module _ {M : Type 1} (𝓤 : URA M) (H : Heap 𝓤) (A : Atoms 𝓤) (W : Given 𝓤 H A) (mem : Memory → SProp 𝓤) (run : Routine → Fun 𝓤) (𝓣 : Tables 𝓤 H)
-    (known-two : Triple 𝓤 (𝓣 .C #lent-rows·desk-valid-tracks) (Two 𝓤 H A mem run)) (known-refuse : Triple 𝓤 (𝓣 .C #relay·gate·refuse) (Refuse 𝓤 H A mem run)) (known-gate : Triple 𝓤 (𝓣 .C #relay·gate·gate-refusal) (Gate 𝓤 H A mem run)) (known-near : Triple 𝓤 (𝓣 .C #relay·gate·neighbour-of) (Near 𝓤 H A mem run)) (known-face : Triple 𝓤 (𝓣 .C #tracks·circuit·facing-of) (Face 𝓤 H A mem run)) (known-work : Triple 𝓤 (𝓣 .C #tracks·circuit·work-on) (Work 𝓤 H A mem run)) where
+    (known-two : Triple 𝓤 (𝓣 .C #lent-rows·desk-valid-tracks) (Two 𝓤 H A mem run)) (known-refuse : Triple 𝓤 (𝓣 .C #step·gate·refuse) (Refuse 𝓤 H A mem run)) (known-gate : Triple 𝓤 (𝓣 .C #step·gate·gate-refusal) (Gate 𝓤 H A mem run)) (known-near : Triple 𝓤 (𝓣 .C #step·gate·neighbour-of) (Near 𝓤 H A mem run)) (known-face : Triple 𝓤 (𝓣 .C #tracks·circuit·facing-of) (Face 𝓤 H A mem run)) (known-work : Triple 𝓤 (𝓣 .C #tracks·circuit·work-on) (Work 𝓤 H A mem run)) where
   walks : Walks 𝓤 H A f.ended stayed (WpFn 𝓤 H (𝓣 .C) (𝓣 .Λ) code.function) (f.clauses 𝓤 H A mem run)
   walks = walked 𝓤 H A f.ended stayed (f.clauses 𝓤 H A mem run) (WpFn 𝓤 H (𝓣 .C) (𝓣 .Λ) code.function) (λ κs. (slice-vals, (slice-vals, (uint-vals w32, (LL.vals S.the-type S′.the-laws, (uint-vals w32, (uint-vals w32, (uint-vals w32, tt))))))))
       (λ κs. (mut-slice-tells (named 0) (κs .0) T.the-row, (shr-slice-tells (named 1) (κs .1 .0) T.the-row, (uint-tells w32, (LL.tells S.the-type S′.the-laws, (uint-tells w32, (uint-tells w32, (uint-tells w32, tt))))))))
@@ -378,8 +378,8 @@ event-on-spec 𝓤 H 𝓜 𝓖 𝓡 =
     (tables 𝓤 H 𝓜 𝓡 code.env .C) (tables 𝓤 H 𝓜 𝓡 code.env .Λ) #lent-rows·event-on code.function (code.unfolded 𝓤 H 𝓜 𝓡)
     (meets 𝓤 H (𝓖 .A) (givenOf 𝓤 H 𝓜 𝓖) (𝓜 .mem) (𝓡 .run) (tablesOf 𝓤 H 𝓜 (tables 𝓤 H 𝓜 𝓡 code.env))
     (cited 𝓤 H (Two 𝓤 H (𝓖 .A) (𝓜 .mem) (𝓡 .run)) 𝓜 𝓡 code.env #lent-rows·desk-valid-tracks two-def.routine code.calls-lent-rows·desk-valid-tracks (two-thm.met 𝓤 H 𝓜 𝓖 𝓡))
-    (cited 𝓤 H (Refuse 𝓤 H (𝓖 .A) (𝓜 .mem) (𝓡 .run)) 𝓜 𝓡 code.env #relay·gate·refuse refuse-def.routine code.calls-relay·gate·refuse (refuse-thm.met 𝓤 H 𝓜 𝓖 𝓡))
-    (cited 𝓤 H (Gate 𝓤 H (𝓖 .A) (𝓜 .mem) (𝓡 .run)) 𝓜 𝓡 code.env #relay·gate·gate-refusal gate-def.routine code.calls-relay·gate·gate-refusal (gate-thm.met 𝓤 H 𝓜 𝓖 𝓡))
-    (cited 𝓤 H (Near 𝓤 H (𝓖 .A) (𝓜 .mem) (𝓡 .run)) 𝓜 𝓡 code.env #relay·gate·neighbour-of near-def.routine code.calls-relay·gate·neighbour-of (near-thm.met 𝓤 H 𝓜 𝓖 𝓡))
+    (cited 𝓤 H (Refuse 𝓤 H (𝓖 .A) (𝓜 .mem) (𝓡 .run)) 𝓜 𝓡 code.env #step·gate·refuse refuse-def.routine code.calls-step·gate·refuse (refuse-thm.met 𝓤 H 𝓜 𝓖 𝓡))
+    (cited 𝓤 H (Gate 𝓤 H (𝓖 .A) (𝓜 .mem) (𝓡 .run)) 𝓜 𝓡 code.env #step·gate·gate-refusal gate-def.routine code.calls-step·gate·gate-refusal (gate-thm.met 𝓤 H 𝓜 𝓖 𝓡))
+    (cited 𝓤 H (Near 𝓤 H (𝓖 .A) (𝓜 .mem) (𝓡 .run)) 𝓜 𝓡 code.env #step·gate·neighbour-of near-def.routine code.calls-step·gate·neighbour-of (near-thm.met 𝓤 H 𝓜 𝓖 𝓡))
     (cited 𝓤 H (Face 𝓤 H (𝓖 .A) (𝓜 .mem) (𝓡 .run)) 𝓜 𝓡 code.env #tracks·circuit·facing-of face-def.routine code.calls-tracks·circuit·facing-of (face-thm.met 𝓤 H 𝓜 𝓖 𝓡))
     (cited 𝓤 H (Work 𝓤 H (𝓖 .A) (𝓜 .mem) (𝓡 .run)) 𝓜 𝓡 code.env #tracks·circuit·work-on work-def.routine code.calls-tracks·circuit·work-on (work-thm.met 𝓤 H 𝓜 𝓖 𝓡)))
