@@ -4,16 +4,19 @@ ghost use mathlib.Core.Path.{_≡_};
 ghost use Rattle.exporting.specs.Exporting.{Exports};
 ghost use Rattle.importing.specs.Importing.{Imports};
 ghost use Rattle.sheet.specs.Check.{checksAlone};
-ghost use Rattle.sheet.specs.Reading.{Reads, verdictOf};
-ghost use Rattle.sheet.specs.Writing.{Writes};
+ghost use Rattle.sheet.specs.Layout.{twoTracks};
+ghost use Rattle.sheet.specs.Reading.{Reads, ReadsTracks, verdictOf, verdictUpTo};
+ghost use Rattle.sheet.specs.Writing.{Writes, WritesTracked};
 ghost use Rattle.why.specs.Why.{sinceOf};
-ghost use Rattle.working.specs.Working.{Works};
+ghost use Rattle.working.specs.Working.{Works, WorksTracks};
 use exporting::Exported;
 use importing::Imported;
 use sheet::Found;
+use sheet::FoundTracks;
 use sheet::Verdict;
 use why::Since;
 use working::Worked;
+use working::WorkedTracks;
 
 // Whether one block by itself checks.
 #[no_mangle]
@@ -77,4 +80,48 @@ pub extern "C" fn desk_import(text: &[u8], out: &mut [u8]) -> Imported
     ensures { λ r. ⌜ Imports (now (text .entry)) r (now (out .entry)) (now (out .exit)) ⌝ }
 {
     importing::import(text, out)
+}
+
+// Tests a sheet of one track or of two.
+#[no_mangle]
+pub extern "C" fn desk_test_tracks(s: &[u8]) -> Verdict
+    ensures { λ r. ⌜ r ≡ verdictUpTo twoTracks (now (s .entry)) ⌝ }
+{
+    sheet::test_tracks(s)
+}
+
+// Reads a sheet of one track or of two into lent room, for its table, its events and the track of each.
+#[no_mangle]
+pub extern "C" fn desk_read_tracks(
+    s: &[u8],
+    table: &mut [u32],
+    events: &mut [[u32; 4]],
+    on: &mut [u32],
+) -> FoundTracks
+    ensures { λ r. ⌜ ReadsTracks (now (s .entry)) r (now (table .entry)) (now (table .exit)) (now (events .entry)) (now (events .exit)) (now (on .entry)) (now (on .exit)) ⌝ }
+{
+    sheet::read_tracks(s, table, events, on)
+}
+
+// Writes a sheet of so many tracks to the front of `out`.
+#[no_mangle]
+pub extern "C" fn desk_write_tracks(
+    tracks: u32,
+    table: &[u32],
+    stamp: u32,
+    events: &[[u32; 4]],
+    on: &[u32],
+    out: &mut [u8],
+) -> u32
+    ensures { λ r. ⌜ WritesTracked (record { form = tracks; stamp = stamp; table = now (table .entry); events = now (events .entry); tracks = now (on .entry) }) r (now (out .entry)) (now (out .exit)) ⌝ }
+{
+    sheet::write_tracks(tracks, table, stamp, events, on, out)
+}
+
+// Works a sheet of one track or of two whole.
+#[no_mangle]
+pub extern "C" fn desk_work_tracks(s: &[u8], out: &mut [u8]) -> WorkedTracks
+    ensures { λ r. ⌜ WorksTracks (now (s .entry)) r (now (out .entry)) (now (out .exit)) ⌝ }
+{
+    working::work_tracks(s, out)
 }
