@@ -2,5 +2,5 @@ pub mod Spaces
 pub mod Refused
 pub mod Listed
 pub mod Numbered
-pub mod Sheets
 pub mod One
+pub mod Sheets

@@ -11,9 +11,13 @@ use lib.ListN.{length, getD, take}
 use lib.Seq.{take-all, take-length}
 use Rattle.relay.specs.Posts.{at}
 use Rattle.relay.specs.declared.Post.{Post}
-use Rattle.sheet.specs.Reading.{decode}
-use Rattle.working.specs.Working.{worked}
-use Rattle.listing.specs.Listing.{eventLines, sectionLines, lineAfter, answerTo, listingOf}
+use Rattle.sheet.specs.Reading.{decodeTracked}
+use Rattle.sheet.specs.Sheet.{Tracked}
+use Rattle.tracks.specs.Circuit.{trackOne, trackTwo}
+use Rattle.working.specs.Run.{marked}
+use Rattle.working.specs.Working.{endOf, workedTracked}
+use Rattle.listing.specs.Lines.{trackNamed}
+use Rattle.listing.specs.Listing.{eventLines, sectionLines, linesOf, answerTo, listingOf}
 use Rattle.digits.specs.Texts.{joined}
 use Rattle.listing.proofs.Listed.{lineOfEvent, lineOfSection, events-none, events-more, sections-first, sections-more}
 
@@ -24,44 +28,48 @@ joined-same f g zero e = refl
 joined-same f g (suc n) e = rw (joined-same f g n (λ i h. e i (omega arith)), e n (omega arith))
 
 -- ---- events
-abbrev pub eventText : List (List ℕ) → ℕ → List ℕ
-eventText es i = lineOfEvent (i + 1) (getD es i [])
+abbrev pub eventText : ℕ → List (List ℕ) → ℕ → List ℕ
+eventText form es i = lineOfEvent form (i + 1) (getD es i [])
 
-first-events : (es : List (List ℕ)) (n : ℕ) → n ≤ length es → eventLines 1 (take n es) ≡ joined (eventText es) n
+first-events : (form : ℕ) (es : List (List ℕ)) (n : ℕ) → n ≤ length es → eventLines form 1 (take n es) ≡ joined (eventText form es) n
 unfolding joined
-first-events es zero h = events-none 1
-first-events es (suc n) h =
-    rw (← add-one n) (events-more 1 es n (n + 1) (omega arith) (omega arith))
-    ∙ ap (λ (t : List ℕ). t ++ eventText es n) (first-events es n (omega arith))
+first-events form es zero h = events-none form 1
+first-events form es (suc n) h =
+    rw (← add-one n) (events-more form 1 es n (n + 1) (omega arith) (omega arith))
+    ∙ ap (λ (t : List ℕ). t ++ eventText form es n) (first-events form es n (omega arith))
 
 -- line i is event i's, at position i + 1
-pub event-lines : (es : List (List ℕ)) → eventLines 1 es ≡ joined (eventText es) (length es)
-event-lines es = ap (eventLines 1) (sym (take-length es)) ∙ first-events es (length es) (omega arith)
+pub event-lines : (form : ℕ) (es : List (List ℕ)) → eventLines form 1 es ≡ joined (eventText form es) (length es)
+event-lines form es = ap (eventLines form 1) (sym (take-length es)) ∙ first-events form es (length es) (omega arith)
 
 -- ---- sections
-abbrev pub sectionText : List Post → ℕ → List ℕ
-sectionText ps i = lineOfSection i (at ps i) (at ps (i + 1))
+abbrev pub sectionText : List ℕ → List Post → ℕ → List ℕ
+sectionText track ps i = lineOfSection track i (at ps i) (at ps (i + 1))
 
-first-sections : (ps : List Post) (n : ℕ) → n + 1 ≤ length ps → sectionLines 0 (take (n + 1) ps) ≡ joined (sectionText ps) n
+first-sections : (track : List ℕ) (ps : List Post) (n : ℕ) → n + 1 ≤ length ps → sectionLines track 0 (take (n + 1) ps) ≡ joined (sectionText track ps) n
 unfolding joined
-first-sections ps zero h = sections-first ps
-first-sections ps (suc n) h =
-    rw (← add-one n) (sections-more ps n (n + 1) refl (omega arith))
-    ∙ ap (λ (t : List ℕ). t ++ sectionText ps n) (first-sections ps n (omega arith))
+first-sections track ps zero h = sections-first track ps
+first-sections track ps (suc n) h =
+    rw (← add-one n) (sections-more track ps n (n + 1) refl (omega arith))
+    ∙ ap (λ (t : List ℕ). t ++ sectionText track ps n) (first-sections track ps n (omega arith))
 
 -- line i is section i's, between the posts i and i + 1
-pub section-lines : (ps : List Post) → sectionLines 0 ps ≡ joined (sectionText ps) (length ps - 1)
+pub section-lines : (track : List ℕ) (ps : List Post) → sectionLines track 0 ps ≡ joined (sectionText track ps) (length ps - 1)
 unfolding sectionLines joined
-section-lines [] = refl
-section-lines (p ∷ ps) =
+section-lines track [] = refl
+section-lines track (p ∷ ps) =
     let n = length (p ∷ ps) - 1 in
-    ap (sectionLines 0) (sym (take-all (n + 1) (p ∷ ps) (omega arith))) ∙ first-sections (p ∷ ps) n (omega arith)
+    ap (sectionLines track 0) (sym (take-all (n + 1) (p ∷ ps) (omega arith))) ∙ first-sections track (p ∷ ps) n (omega arith)
 
 -- ---- the whole listing of a sheet that is worked
-pub listing-lines : (s : List ℕ) → answerTo s .number ≡ 0
-    → listingOf s
-    ≡ joined (eventText (worked (decode s) .events)) (length (worked (decode s) .events))
-    ++ joined (sectionText (lineAfter (decode s))) (length (lineAfter (decode s)) - 1)
+pub lines-joined : (t : Tracked)
+    → linesOf t
+    ≡ joined (eventText (t .form) (marked (workedTracked t .events) (t .tracks))) (length (marked (workedTracked t .events) (t .tracks)))
+    ++ (joined (sectionText (trackNamed (t .form) trackOne) (endOf t .first)) (length (endOf t .first) - 1)
+    ++ joined (sectionText (trackNamed (t .form) trackTwo) (endOf t .second)) (length (endOf t .second) - 1))
+unfolding linesOf
+lines-joined t = rw (event-lines (t .form) (marked (workedTracked t .events) (t .tracks)), section-lines (trackNamed (t .form) trackOne) (endOf t .first), section-lines (trackNamed (t .form) trackTwo) (endOf t .second)) refl
+
+pub listing-lines : (s : List ℕ) → answerTo s .number ≡ 0 → listingOf s ≡ linesOf (decodeTracked s)
 unfolding listingOf
-listing-lines s z =
-    rw (eq-eqb (answerTo s .number) 0 z, event-lines (worked (decode s) .events), section-lines (lineAfter (decode s)))
+listing-lines s z = rw (eq-eqb (answerTo s .number) 0 z) refl

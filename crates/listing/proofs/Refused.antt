@@ -14,6 +14,7 @@ use Rattle.digits.specs.Digits.{digits}
 use Rattle.digits.specs.Texts.{stored}
 use Rattle.digits.proofs.Stores.{put-one, stored-more}
 use Rattle.listing.specs.Lines.{space, spaced, ended, line, eventNamed, refusedWord, refusedLine}
+use Rattle.listing.proofs.Spaces.{part-only}
 
 -- ---- what is printed. 02, item 6: `refused 24 BLOCK POSITION`, and every other refusal as before it
 pub prints-event : (block position : ℕ) → refusedLine 24 block position ≡ line refusedWord (24 ∷ block ∷ position ∷ [])
@@ -43,12 +44,9 @@ refused-put d h =
     )
 
 -- the event that is named, as a part of one number
-pub named-few : (n : ℕ) → pick (eqb n upperBits) 1 0 ≤ 1
-named-few n = split (eqb n upperBits) (λ t. rw t (omega arith)) (λ t. rw t (omega arith))
-
 pub named-part : (n e : ℕ) → take (pick (eqb n upperBits) 1 0) (e ∷ []) ≡ eventNamed n e
 unfolding eventNamed
-named-part n e = split (eqb n upperBits) (λ t. rw t) (λ t. rw t)
+named-part n e = part-only (eqb n upperBits) e
 
 pub named-long : (n e : ℕ) → length (digits e) ≤ 10 → length (ended (eventNamed n e)) ≤ 12
 unfolding eventNamed spaced

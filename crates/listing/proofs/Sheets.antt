@@ -1,136 +1,77 @@
--- The sheet behind a listing: what working it into 32,768 bytes tells of its listing, and what reading those bytes again gives.
+-- The sheet behind a listing: the listing by what becomes of the sheet, and how long its lines of posts are at the end.
 -- Assumes nothing.
-use Prim.Native.Nat.{ℕ, _+_, _≤_}
-use mathlib.Core.Path.{_≡_, refl, sym, ap, _∙_}
-use mathlib.Core.Bool.{true, false}
-use mathlib.Core.List.{List, _++_}
+use Prim.Native.Nat.{ℕ, _+_, _/_, _≤_, _<_}
+use mathlib.Core.Path.{_≡_, refl}
+use mathlib.Core.Bool.{false, _&&_}
+use mathlib.Core.List.{List}
 use native.Mathlib.Omega.{arith}
-use borrow.Author.Tests.{eqb-true, eqb-false, le-leb}
+use borrow.Author.Tests.{eq-eqb, le-leb, lt-ltb, le-ltb}
 use lib.Dec.{eqb}
-use lib.ListN.{length, take, drop, length-append}
-use lib.Seq.{take-at}
-use Rattle.relay.proofs.Fresh.{length-fresh}
-use Rattle.relay.proofs.Truth.{split}
-use Rattle.row.proofs.Starts.{table-few}
-use Rattle.row.specs.Row.{rowOf}
-use Rattle.sheet.specs.Layout.{oneTrack}
-use Rattle.sheet.proofs.Bytes.{Below}
-use Rattle.sheet.proofs.One.{read-one}
-use Rattle.sheet.proofs.Rooms.{not-long, posts-few, entries-few, room-both, read-found}
-use Rattle.sheet.proofs.Trips.{written-accepted, written-read}
-use Rattle.sheet.specs.Reading.{accepted, verdictOf, decode, found, Reads}
-use Rattle.sheet.specs.Sheet.{Sheet, encode}
-use Rattle.sheet.specs.declared.Found.{Found}
-use Rattle.working.proofs.Steps.{run-long}
-use Rattle.working.proofs.Twice.{worked-writable, same-length}
-use Rattle.working.proofs.Works.{said-table}
-use Rattle.working.specs.Run.{begun, run}
-use Rattle.working.specs.Working.{worked, refused, workVerdict, workVerdictUpTo, workOf, workedBytes, Works}
-use Rattle.working.specs.declared.Worked.{Worked}
-use Rattle.listing.specs.Lines.{refusedLine}
-use Rattle.listing.specs.Listing.{eventLines, sectionLines, lineAfter, answerTo, listingOf}
+use lib.ListN.{length}
+use Rattle.relay.proofs.Truth.{and-facts}
+use Rattle.relay.specs.declared.Post.{Post}
+use Rattle.row.proofs.Held.{held-line}
+use Rattle.row.specs.Row.{rowOf, lineOf}
+use Rattle.row.specs.declared.Row.{Row}
+use Rattle.sheet.specs.Layout.{perBlock, twoTracks, contentsWrong}
+use Rattle.sheet.specs.Reading.{formOk, tableFits, verdictUpTo, decode, decodeTracked}
+use Rattle.sheet.specs.Sheet.{Tracked, circuitOf}
+use Rattle.working.proofs.Both.{now-few}
+use Rattle.working.proofs.WorksTracks.{said-start}
+use Rattle.working.specs.Run.{marked}
+use Rattle.working.specs.Working.{firstAnswered, endOf, workedTracked, workVerdictUpTo}
+use Rattle.digits.specs.Texts.{Put}
+use Rattle.listing.specs.Lines.{trackNamed, refusedLine, Lined}
+use Rattle.listing.specs.Listing.{eventLines, sectionLines, linesOf, answerTo, listingOf}
 
--- ---- working
+-- ---- lines that were put, as those of a sheet
+pub events-put : (t : Tracked) (form : ℕ) (es : List (List ℕ)) (ts : List ℕ) (r : ℕ) (page page′ : List ℕ) → form ≡ t .form → es ≡ workedTracked t .events → ts ≡ t .tracks
+    → Lined (eventLines form 1 (marked es ts)) r page page′ → Put (eventLines (t .form) 1 (marked (workedTracked t .events) (t .tracks))) 0 r page page′
+events-put t form es ts r page page′ a b c h = let l = rw (a, b, c) at h in (omega (arith, l .0), l .1)
+
+pub sections-put : (form form′ track : ℕ) (row : Row) (l : List Post) (k r : ℕ) (page page′ : List ℕ) → form ≡ form′ → lineOf row ≡ l
+    → Put (sectionLines (trackNamed form track) 0 (lineOf row)) k r page page′ → Put (sectionLines (trackNamed form′ track) 0 l) k r page page′
+sections-put form form′ track row l k r page page′ a b h = rw (a, b) at h
+
 module _ (s : List ℕ) where
-  -- a sheet that is worked was accepted
-  accepts : (m : ℕ) → workVerdict s m .number ≡ 0 → verdictOf s .number ≡ 0
-  unfolding workVerdictUpTo
-  accepts m e = split (accepted s) (λ t. eqb-true (verdictOf s .number) 0 t) (λ f. rw f at e)
+  abbrev t : Tracked
+  t = decodeTracked s
 
-  module _ (out : List ℕ) (room : length out ≡ 32768) where
-    -- an accepted sheet has at most 32,768 bytes, so these answer as an output of its own length does
-    same-answer : workVerdict s (length out) ≡ answerTo s
-    unfolding workVerdictUpTo
-    same-answer =
-        split (accepted s)
-        (λ t. rw (le-leb (length s) (length out) (omega (arith, not-long oneTrack s (eqb-true (verdictOf s .number) 0 t))), le-leb (length s) (length s) (omega arith)))
-        (λ f. rw f)
+  -- ---- refused as reading refuses
+  pub listing-unread : eqb (verdictUpTo twoTracks s .number) 0 ≡ false → listingOf s ≡ refusedLine (verdictUpTo twoTracks s .number) (verdictUpTo twoTracks s .block) (verdictUpTo twoTracks s .position)
+  unfolding listingOf workVerdictUpTo
+  listing-unread h = let e : answerTo s ≡ verdictUpTo twoTracks s = rw h refl in rw (e, h) refl
 
-    module _ (r : Worked) (out′ : List ℕ) (w : Works s r out out′) where
-      -- refused, or worked
-      refused-is : eqb (answerTo s .number) 0 ≡ false → r ≡ refused (answerTo s)
-      unfolding workOf
-      refused-is f = w .0 ∙ rw (same-answer, f)
+  module _ (z : verdictUpTo twoTracks s .number ≡ 0) where
+    -- the events are the same in either form
+    same : decode s .events ≡ t .events
+    unfolding decode decodeTracked
+    same = refl
 
-      worked-is : eqb (answerTo s .number) 0 ≡ true → r ≡ record { number = 0; block = 0; position = 0; row = rowOf (lineAfter (decode s)); head = run (begun (decode s .kinds) (decode s .stamp)) (decode s .events) .told .head }
-      unfolding workOf
-      worked-is y = w .0 ∙ rw (same-answer, y)
+    -- ---- refused for an answer
+    pub listing-answered : firstAnswered (t .events) < length (t .events) → listingOf s ≡ refusedLine contentsWrong (1 + firstAnswered (t .events) / perBlock) 0
+    unfolding listingOf workVerdictUpTo
+    listing-answered h = rw (same, eq-eqb (verdictUpTo twoTracks s .number) 0 z, lt-ltb _ _ h) refl
 
-      pub listing-refused : (r .number ≡ 0 → ⊥) → listingOf s ≡ refusedLine (r .number) (r .block) (r .position)
-      unfolding listingOf
-      listing-refused n =
-          split (eqb (answerTo s .number) 0)
-          (λ y. absurd (n (ap (λ (x : Worked). x .number) (worked-is y))))
-          (λ f. rw (f, refused-is f))
+    -- ---- worked
+    pub listing-worked : length (t .events) ≤ firstAnswered (t .events) → listingOf s ≡ linesOf t
+    unfolding listingOf workVerdictUpTo
+    listing-worked h = rw (same, eq-eqb (verdictUpTo twoTracks s .number) 0 z, le-ltb _ _ h, le-leb (length s) (length s) (omega arith)) refl
 
-      -- what a worked sheet tells
-      pub record Done : Type 0 where
-        pub accepted : verdictOf s .number ≡ 0
-        pub row : r .row ≡ rowOf (lineAfter (decode s))
-        pub bytes : out′ ≡ encode (worked (decode s)) ++ drop (length s) out
-        pub listing : listingOf s ≡ eventLines 1 (worked (decode s) .events) ++ sectionLines 0 (lineAfter (decode s))
+    ends : (length (endOf t .first) ≤ 32) × (length (endOf t .second) ≤ 32)
+    ends = now-few (t .form) (t .table) (t .stamp) (and-facts (formOk twoTracks (t .form)) (tableFits (t .form) (t .table)) .0 (said-start s z) .1) (circuitOf (t .table)) (marked (t .events) (t .tracks))
 
-      pub listing-worked : r .number ≡ 0 → Done
-      unfolding listingOf workedBytes
-      listing-worked z =
-          split (eqb (answerTo s .number) 0)
-          (λ y. record {
-            accepted = accepts (length s) (eqb-true (answerTo s .number) 0 y);
-            row = ap (λ (x : Worked). x .row) (worked-is y);
-            bytes = w .1 ∙ rw (same-answer, y);
-            listing = rw y;
-          })
-          (λ f. absurd (eqb-false (answerTo s .number) 0 f (sym (ap (λ (x : Worked). x .number) (refused-is f)) ∙ z)))
+    -- a row that holds one of its lines
+    pub record Holds (r : Row) (l : List Post) : Type 0 where
+      pub few : r .n ≤ 32
+      pub line : lineOf r ≡ l
 
--- ---- an accepted sheet
-module _ (s : List ℕ) (z : verdictOf s .number ≡ 0) where
-  -- its line
-  pub line-few : length (lineAfter (decode s)) ≤ 32
-  line-few =
-      let b = begun (decode s .kinds) (decode s .stamp) in
-      omega (arith, run-long b (decode s .events), length-fresh (decode s .kinds), table-few (decode s .kinds) (said-table s z))
+    holds : (l : List Post) → length l ≤ 32 → (r : Row) → r ≡ rowOf l → Holds r l
+    unfolding rowOf
+    holds l f r e = record { few = rw e f; line = rw e (held-line l f) }
 
-  pub row-few : rowOf (lineAfter (decode s)) .n ≤ 32
-  unfolding rowOf
-  row-few = line-few
+    pub holds-first : (r : Row) → r ≡ rowOf (endOf t .first) → Holds r (endOf t .first)
+    holds-first = holds (endOf t .first) (ends .0)
 
-  -- what reading the output again hands out
-  pub record Again (r : Found) (room′ : List (List ℕ)) : Type 0 where
-    pub few : r .events ≤ 3780
-    pub fits : r .events ≤ length room′
-    pub events : take (r .events) room′ ≡ worked (decode s) .events
-
-  module _ (small : Below 256 s) (out out′ : List ℕ) (b : out′ ≡ encode (worked (decode s)) ++ drop (length s) out) where
-    abbrev t : List ℕ
-    t = encode (worked (decode s))
-
-    abbrev es : List (List ℕ)
-    es = worked (decode s) .events
-
-    module _ (r : Found) (ks ks′ : List ℕ) (room room′ : List (List ℕ)) (few : 32 ≤ length ks) (most : 3780 ≤ length room) (h : Reads (take (length s) out′) r ks ks′ room room′) where
-      -- the worked sheet stands at the front of the output
-      front : take (length s) out′ ≡ t
-      front = rw b (take-at t (drop (length s) out) (length s) (same-length s small z))
-
-      back : decode t ≡ worked (decode s)
-      back = written-read (worked (decode s)) (worked-writable s small z)
-
-      found-again : (r ≡ found (decode t)) × (room′ ≡ decode t .events ++ drop (length (decode t .events)) room)
-      found-again =
-          let a = written-accepted (worked (decode s)) (worked-writable s small z) in
-          let f = read-found t ks room a (room-both t ks room (omega (arith, posts-few oneTrack t a)) (omega (arith, entries-few oneTrack t a))) in
-          let o = read-one t r (found (decode t)) ks ks′ _ room room′ _ (rw front at h) f in
-          (o .0, o .2)
-
-      count : r .events ≡ length es
-      count = ap (λ (x : Found). x .events) (found-again .0) ∙ ap (λ (x : Sheet). length (x .events)) back
-
-      handed : room′ ≡ es ++ drop (length es) room
-      handed = found-again .1 ∙ ap (λ (x : Sheet). x .events ++ drop (length (x .events)) room) back
-
-      pub read-again : Again r room′
-      read-again = record {
-        few = omega (arith, count, worked-writable s small z .most);
-        fits = rw (handed, length-append) (omega (arith, count));
-        events = rw (handed, count) (take-at es (drop (length es) room) (length es) refl);
-      }
+    pub holds-second : (r : Row) → r ≡ rowOf (endOf t .second) → Holds r (endOf t .second)
+    holds-second = holds (endOf t .second) (ends .1)

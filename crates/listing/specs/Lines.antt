@@ -6,7 +6,7 @@ use mathlib.Core.List.{List, [], _∷_, _++_}
 use lib.Dec.{eqb}
 use lib.ListN.{length}
 use Rattle.relay.specs.Choice.{pick}
-use Rattle.sheet.specs.Layout.{upperBits}
+use Rattle.sheet.specs.Layout.{twoTracks, upperBits}
 use Rattle.digits.specs.Digits.{digits}
 use Rattle.digits.specs.Texts.{stored}
 
@@ -29,14 +29,18 @@ ended ns = spaced ns ++ (lineFeed ∷ [])
 abbrev pub line : List ℕ → List ℕ → List ℕ
 line first ns = first ++ ended ns
 
--- 'one line per event: position from 1, event, post, answer'
-unfoldable pub eventLine : ℕ → ℕ → ℕ → ℕ → List ℕ
-eventLine position event post answer = line (digits position) (event ∷ post ∷ answer ∷ [])
+-- 02, item 7: of a two-track sheet 'its listing lines get that bit as a last field'; in one of one track there is no such field
+unfoldable pub trackNamed : ℕ → ℕ → List ℕ
+trackNamed form track = pick (eqb form twoTracks) (track ∷ []) []
+
+-- 'one line per event: position from 1, event, post, answer', and the track's field
+unfoldable pub eventLine : ℕ → ℕ → ℕ → ℕ → List ℕ → List ℕ
+eventLine position event post answer track = line (digits position) (event ∷ post ∷ answer ∷ track)
 
 -- 'S, section, a, r, x, q, e, y, v, g, h'
--- the section and its nine numbers, after the letter S
-unfoldable pub sectionLine : List ℕ → List ℕ
-sectionLine ns = line (83 ∷ []) ns
+-- the section and its nine numbers, after the letter S, and the track's field
+unfoldable pub sectionLine : List ℕ → List ℕ → List ℕ
+sectionLine ns track = line (83 ∷ []) (ns ++ track)
 
 -- 02, item 6: after 24 'the event's position in the block, from 0 (printed last)'; after any other number nothing
 unfoldable pub eventNamed : ℕ → ℕ → List ℕ

@@ -175,12 +175,16 @@ module _ (form : ℕ) (ks : List ℕ) (t : ℕ) (fits : tableFits form ks ≡ tr
   abbrev now : AfterTwo
   now = runBy form c (begunBy form ks t) es
 
+  pub now-few : (length (now .first) ≤ most) × (length (now .second) ≤ most)
+  now-few =
+      let g = run-long form c (begunBy form ks t) es in
+      let b = begun-few form ks t fits in
+      (omega (arith, g .0, b .0), omega (arith, g .1, b .1))
+
   pub rows-next : (e : List ℕ) → stepBy form c (rowOf (now .first)) (rowOf (now .second)) (now .told .head) (getD e 4 0) (numberOf e) (postOf e) (stampOf e)
       ≡ stoodTwo (nextBy form c now e .told) (rowOf (nextBy form c now e .first)) (rowOf (nextBy form c now e .second))
   unfolding stepBy nextBy
   rows-next e =
-      let g = run-long form c (begunBy form ks t) es in
-      let b = begun-few form ks t fits in
       split (eqb form twoTracks)
-      (λ y. rw y (held-two (now .first) (now .second) (omega (arith, g .0, b .0)) (omega (arith, g .1, b .1)) c (now .told .head) (getD e 4 0) (numberOf e) (postOf e) (stampOf e)))
-      (λ y. rw (y, held-event (now .first) (omega (arith, g .0, b .0)) (now .told .head) (numberOf e) (postOf e) (stampOf e)) refl)
+      (λ y. rw y (held-two (now .first) (now .second) (now-few .0) (now-few .1) c (now .told .head) (getD e 4 0) (numberOf e) (postOf e) (stampOf e)))
+      (λ y. rw (y, held-event (now .first) (now-few .0) (now .told .head) (numberOf e) (postOf e) (stampOf e)) refl)

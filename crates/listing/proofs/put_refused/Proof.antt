@@ -5,14 +5,17 @@ use mathlib.Core.Path.{refl, sym, ap, _∙_}
 use mathlib.Core.List.{List, [], _∷_, _++_}
 use native.Mathlib.Omega.{arith}
 use borrow.Author.Needs.{needs}
+use lib.Dec.{eqb}
 use lib.ListN.{length, length-append, length-set}
 use lib.Seq.{length-take-le}
+use Rattle.sheet.specs.Layout.{upperBits}
 use Rattle.digits.specs.Digits.{digits}
 use Rattle.digits.specs.Texts.{stored, Put}
 use Rattle.digits.proofs.Value.{digits-long, digits-long-64}
 use Rattle.digits.proofs.Stores.{put-length, put-byte, put-then}
 use Rattle.listing.specs.Lines.{space, ended, eventNamed}
-use Rattle.listing.proofs.Refused.{refused, refused-put, named-few, named-part, named-long, refused-pieces}
+use Rattle.listing.proofs.Refused.{refused, refused-put, named-part, named-long, refused-pieces}
+use Rattle.listing.proofs.Spaces.{part-few}
 use Rattle.listing.proofs.put_refused.Statement.{statement}
 use Rattle.listing.proofs.put_refused.Tie as tie
 
@@ -95,7 +98,7 @@ events-named-requires : tie.Need-events-named-requires
 events-named-requires c κs = search needs
 
 array-share-prefix-ns : tie.Need-array-share-prefix-ns
-array-share-prefix-ns c = rw (c .before .events-named .ensures) (named-few (c .before .before .before .before .before .before .before .before .before .before .before .args .number))
+array-share-prefix-ns c = rw (c .before .events-named .ensures) (part-few (eqb (c .before .before .before .before .before .before .before .before .before .before .before .args .number) upperBits))
 
 slice-aggregate-put-rest : tie.Need-slice-aggregate-put-rest
 slice-aggregate-put-rest c = sym (length-take-le _ _ (array-share-prefix-ns (c .before)))

@@ -9,6 +9,7 @@ use lib.Seq.{take-all, length-take-le}
 use Rattle.relay.specs.Posts.{at}
 use Rattle.row.proofs.Part.{line-is, at-part}
 use Rattle.working.specs.Working.{sectionNumbers}
+use Rattle.listing.specs.Lines.{trackNamed}
 use Rattle.listing.specs.Listing.{sectionLines}
 use Rattle.digits.specs.Texts.{stored}
 use Rattle.listing.proofs.Listed.{lineOfSection, sections-first, sections-more}
@@ -18,20 +19,20 @@ use Rattle.listing.proofs.put_sections.Tie as tie
 
 -- the first j = i + 1 posts of the line have i sections
 abbrev Inv-loop : tie.InvT-loop
-Inv-loop out₀ from posts n p₀ i₀ j₀ out p i j =
+Inv-loop out₀ from tracks track posts n p₀ i₀ j₀ out p i j =
     (j ≤ 32)
-    × (p ≡ from + length (sectionLines 0 (take j (take n posts))))
+    × (p ≡ from + length (sectionLines (trackNamed tracks track) 0 (take j (take n posts))))
     × (p ≤ from + i * 128)
     × (length out ≡ length out₀)
-    × (out ≡ stored out₀ from (sectionLines 0 (take j (take n posts))))
+    × (out ≡ stored out₀ from (sectionLines (trackNamed tracks track) 0 (take j (take n posts))))
     × (j ≡ i + 1)
 
 abbrev μ-loop : tie.MeasureT-loop
-μ-loop out₀ from posts n p₀ i₀ j₀ out p i j = n - j
+μ-loop out₀ from tracks track posts n p₀ i₀ j₀ out p i j = n - j
 
 -- the array has 32 records
 full : (c : tie.After-posts Inv-loop μ-loop) → length (c .before .before .args .row .posts) ≡ 32
-full c = sym (length-map (c .before .before .args .row .posts) _) ∙ c .before .before .good .1 .1 .0 .1 .1 .0 .1 .0 .1
+full c = sym (length-map (c .before .before .args .row .posts) _) ∙ c .before .before .good .1 .1 .1 .1 .0 .1 .1 .0 .1 .0 .1
 
 loop-holds : tie.Need-loop-holds Inv-loop μ-loop
 loop-holds c = rw sections-first (omega arith, omega arith, omega arith, refl, sym (stored-none _ _), refl)
@@ -74,11 +75,11 @@ loop-again c =
     let h : n ≤ length ps = omega (arith, full (l .before)) in
     let less : j < n = omega arith in
     let ln = take n ps in
-    let u = lineOfSection i (at ln i) (at ln j) in
+    let u = lineOfSection (trackNamed (a .tracks) (a .track)) i (at ln i) (at ln j) in
     let numbers : c .before .before .before .before .section .result ≡ sectionNumbers i (at ln i) (at ln j) =
     c .before .before .before .before .section .ensures ∙ rw (at-part ps n h i (omega arith), at-part ps n h j less) in
     let r = c .before .before .put-section .ensures in
-    let more = sections-more ln i j (l .loop .inv .5) (rw (length-take-le n ps h) less) in
+    let more = sections-more (trackNamed (a .tracks) (a .track)) ln i j (l .loop .inv .5) (rw (length-take-le n ps h) less) in
     let r0 = rw numbers at (r .0 .0) in
     let fits : l .loop .p + length u ≤ length (a .out .now) = omega (arith, r0, r .1) in (
       omega arith,
