@@ -184,11 +184,17 @@ so-requires-2 c κs = search tests
 later-requires : tie.Need-later-requires Inv-loop μ-loop
 later-requires c κs = search tests
 
+-- there are at most 3,780 turns
+turn-few : (c : tie.In-loop Inv-loop μ-loop) → (c .before .loop .i < 3780) × (c .before .loop .here ≤ 3780)
+turn-few c =
+    let few-events = c .before .before .before .before .before .before .before .before .before .before .before .pre .3 in
+    (omega (arith, c .loop-test .taken, few-events), omega (arith, c .loop-test .taken, c .before .loop .inv .1, few-events))
+
 add-i : tie.Need-add-i Inv-loop μ-loop
-add-i c = record { fits = omega (arith, c .before .before .before .before .before .before .before .before .before .before .before .before .before .loop-test .taken, c .before .before .before .before .before .before .before .before .before .before .before .before .before .before .before .before .before .before .before .before .before .before .before .before .pre .3) }
+add-i c = record { fits = omega (arith, turn-few (c .before .before .before .before .before .before .before .before .before .before .before .before .before) .0) }
 
 add-here : tie.Need-add-here Inv-loop μ-loop
-add-here c = record { fits = omega (arith, c .before .before .before .before .before .before .before .before .before .before .before .before .before .loop-test .taken, c .before .before .before .before .before .before .before .before .before .before .before .before .before .before .loop .inv .1, c .before .before .before .before .before .before .before .before .before .before .before .before .before .before .before .before .before .before .before .before .before .before .before .before .pre .3) }
+add-here c = record { fits = omega (arith, turn-few (c .before .before .before .before .before .before .before .before .before .before .before .before .before) .1) }
 
 loop-less : tie.Need-loop-less Inv-loop μ-loop
 loop-less c = search tests
