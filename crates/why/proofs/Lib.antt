@@ -10,5 +10,6 @@ pub mod OnRows
 pub mod Cause
 pub mod Named
 pub mod One
+pub mod OneTrack
 pub mod Worked
 pub mod Paper

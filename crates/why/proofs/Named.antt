@@ -29,7 +29,7 @@ use Rattle.working.proofs.Along.{run-more}
 use Rattle.working.proofs.Both.{marked-long}
 use Rattle.working.proofs.Steps.{goes-by}
 use Rattle.working.specs.Run.{trackOf, marked, nextBy, runBy}
-use Rattle.why.specs.Why.{eventAt, trackAt, startOf, stateAfter, lineAt, speaks, so, lastMade, asWorked, since, sinceWhen, sinceUpTo}
+use Rattle.why.specs.Why.{eventAt, trackAt, begunOf, stateAfter, lineAt, speaks, so, lastMade, asWorked, since, sinceWhen, sinceUpTo}
 use Rattle.why.specs.declared.Since.{Since}
 use Rattle.why.proofs.Asked.{below-first, past-last, other-answer, is-asked, since-unread, since-not-asked, since-not-worked, since-in}
 use Rattle.why.proofs.Cause.{Cause, cause}
@@ -92,8 +92,8 @@ step-at t j h l =
     let more : j - 1 + 1 ≡ j = omega arith in
     let xs = marked (t .events) (t .tracks) in
     let w = goes-by (t .form) (circuitOf (t .table)) in
-    subst (λ (i : ℕ). runBy (t .form) (circuitOf (t .table)) (startOf t) (take i xs) ≡ workedAt t j) more
-    (run-more w (startOf t) xs xs refl (j - 1) (omega (arith, marked-long (t .events) (t .tracks))))
+    subst (λ (i : ℕ). runBy (t .form) (circuitOf (t .table)) (begunOf t) (take i xs) ≡ workedAt t j) more
+    (run-more w (begunOf t) xs xs refl (j - 1) (omega (arith, marked-long (t .events) (t .tracks))))
 
 -- its numbers are those of the event with its track behind it
 module _ (t : Tracked) (j : ℕ) (h : 1 ≤ j) (l : j ≤ length (t .events)) where
@@ -122,22 +122,22 @@ module _ (t : Tracked) where
 
   all-right : AllRight t → asWorked t ≡ true
   all-right f =
-      right-iff (t .form) (circuitOf (t .table)) (startOf t) xs .1
+      right-iff (t .form) (circuitOf (t .table)) (begunOf t) xs .1
       (λ i h.
       let back : i + 1 - 1 ≡ i = omega arith in
       rw back at (answer-is t (i + 1) (omega arith) (omega (arith, h, long)) ∙ f (i + 1) (omega arith) (omega (arith, h, long))))
 
   right-all : asWorked t ≡ true → AllRight t
   right-all w j h l =
-      sym (answer-is t j h l) ∙ right-iff (t .form) (circuitOf (t .table)) (startOf t) xs .0 w (j - 1) (omega (arith, long))
+      sym (answer-is t j h l) ∙ right-iff (t .form) (circuitOf (t .table)) (begunOf t) xs .0 w (j - 1) (omega (arith, long))
 
   wrong-one : (j : ℕ) → 1 ≤ j → j ≤ length (t .events) → (RightAt t j → ⊥) → asWorked t ≡ false
   wrong-one j h l n =
-      wrong-at (t .form) (circuitOf (t .table)) (startOf t) xs (j - 1) (omega (arith, long)) (λ r. n (sym (answer-is t j h l) ∙ r))
+      wrong-at (t .form) (circuitOf (t .table)) (begunOf t) xs (j - 1) (omega (arith, long)) (λ r. n (sym (answer-is t j h l) ∙ r))
 
   some-wrong : asWorked t ≡ false → (j : ℕ) × ((1 ≤ j) × ((j ≤ length (t .events)) × (RightAt t j → ⊥)))
   some-wrong w =
-      let x = wrong-some (t .form) (circuitOf (t .table)) (startOf t) xs w in
+      let x = wrong-some (t .form) (circuitOf (t .table)) (begunOf t) xs w in
       let back : x .0 + 1 - 1 ≡ x .0 = omega arith in
       let l : x .0 + 1 ≤ length (t .events) = omega (arith, x .1 .0, long) in
       (x .0 + 1, (omega arith, (l, λ r. x .1 .1 (rw back at (answer-is t (x .0 + 1) (omega arith) l ∙ r)))))

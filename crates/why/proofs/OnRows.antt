@@ -22,7 +22,7 @@ use Rattle.sheet.specs.Reading.{tablesOk, tableFits}
 use Rattle.sheet.specs.Sheet.{Tracked, firstKinds, secondKinds, circuitOf}
 use Rattle.tracks.specs.Circuit.{AfterTwo, trackTwo}
 use Rattle.working.specs.Run.{marked}
-use Rattle.why.specs.Why.{startOf, stateAfter, lineAt}
+use Rattle.why.specs.Why.{begunOf, stateAfter, lineAt}
 use Rattle.why.proofs.Start.{kindsOn, starts-fresh}
 use Rattle.why.proofs.Track.{run-long}
 
@@ -43,7 +43,7 @@ kinds-few t e track =
 -- so has each line, after any number of events
 pub few : (t : Tracked) → tableFits (t .form) (t .table) ≡ true → (i track : ℕ) → length (lineAt track (stateAfter t i)) ≤ most
 few t e i track =
-    let l = run-long (t .form) (circuitOf (t .table)) track (startOf t) (take i (marked (t .events) (t .tracks))) in
+    let l = run-long (t .form) (circuitOf (t .table)) track (begunOf t) (take i (marked (t .events) (t .tracks))) in
     let f = ap (λ (l : List Post). length l) (starts-fresh t track) in
     omega (arith, l, f, length-fresh (kindsOn t track), kinds-few t e track)
 

@@ -25,7 +25,7 @@ use Rattle.sheet.specs.Sheet.{Tracked, firstKinds, secondKinds, circuitOf}
 use Rattle.tracks.specs.Circuit.{trackTwo}
 use Rattle.working.proofs.Steps.{goes-by}
 use Rattle.working.specs.Run.{marked, begunBy}
-use Rattle.why.specs.Why.{so, startOf, stateAfter, lineAt, soAfter}
+use Rattle.why.specs.Why.{so, begunOf, stateAfter, lineAt, soAfter}
 use Rattle.why.proofs.Says.{Says}
 use Rattle.why.proofs.Track.{run-long, run-kinds}
 
@@ -45,7 +45,7 @@ kindsOn t track =
     (pick (eqb track trackTwo) [] (t .table))
 
 -- its line at the start is the fresh one
-pub starts-fresh : (t : Tracked) (track : ℕ) → lineAt track (startOf t) ≡ freshLine (kindsOn t track)
+pub starts-fresh : (t : Tracked) (track : ℕ) → lineAt track (begunOf t) ≡ freshLine (kindsOn t track)
 unfolding begunBy freshLine
 starts-fresh t track =
     split (eqb (t .form) twoTracks)
@@ -62,10 +62,10 @@ module _ (t : Tracked) (track n p i : ℕ) (s : Says n (lineAt track (stateAfter
       let c = circuitOf (t .table) in
       let xs = take i (marked (t .events) (t .tracks)) in
       let f = starts-fresh t track in
-      rw (goes-by (t .form) c .run-none (startOf t), f)
+      rw (goes-by (t .form) c .run-none (begunOf t), f)
       (fresh-up (kindsOn t track) p
-      (omega (arith, s .there, run-long (t .form) c track (startOf t) xs, ap (λ (l : List Post). length l) f, length-fresh (kindsOn t track)))
-      (λ e. s .not-terminus (sym (forms _ .0) ∙ ap ordinary (run-kinds (t .form) c track (startOf t) xs p) ∙ ap (λ (l : List Post). form (at l p)) f ∙ e)))
+      (omega (arith, s .there, run-long (t .form) c track (begunOf t) xs, ap (λ (l : List Post). length l) f, length-fresh (kindsOn t track)))
+      (λ e. s .not-terminus (sym (forms _ .0) ∙ ap ordinary (run-kinds (t .form) c track (begunOf t) xs p) ∙ ap (λ (l : List Post). form (at l p)) f ∙ e)))
 
   pub at-start : (n ≡ rlUp → soAfter t track n p 0 ≡ true) × ((n ≡ lDown) ⊎ (n ≡ rlDown) → soAfter t track n p 0 ≡ false)
   unfolding so

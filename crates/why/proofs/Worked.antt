@@ -28,7 +28,7 @@ use Rattle.working.proofs.Steps.{goes-by}
 use Rattle.working.proofs.WorksTracks.{fields-kept}
 use Rattle.working.specs.Run.{marked, nextBy, answeredBy, answersBy}
 use Rattle.working.specs.Working.{workedTracked}
-use Rattle.why.specs.Why.{noSuchRefusal, startOf, rightAnswers, asWorked, asked, sinceWhen, sinceUpTo}
+use Rattle.why.specs.Why.{noSuchRefusal, begunOf, rightAnswers, asWorked, asked, sinceWhen, sinceUpTo}
 use Rattle.why.specs.declared.Since.{Since}
 use Rattle.why.proofs.Asked.{since-in, since-not-asked}
 use Rattle.why.proofs.Taken.{form-most}
@@ -104,23 +104,23 @@ module _ (most : ℕ) (fits : most ≤ twoTracks) (s : List ℕ) (small : Below 
       record {
         form = w .form;
         table = w .table;
-        fields = fields-kept (t .form) c (startOf t) (marked (t .events) (t .tracks)) (marked-fields (t .events) (t .tracks) (w .fields));
+        fields = fields-kept (t .form) c (begunOf t) (marked (t .events) (t .tracks)) (marked-fields (t .events) (t .tracks) (w .fields));
         tracks = rw long (w .tracks);
         most = rw long (w .most);
         stamp = w .stamp;
         words = w .words;
-        four = λ i h. stamps-kept (t .form) c (startOf t) (t .events) (t .tracks) i (omega (arith, h, long)) .0;
+        four = λ i h. stamps-kept (t .form) c (begunOf t) (t .events) (t .tracks) i (omega (arith, h, long)) .0;
         stamps = λ i h.
             let l : i < length (t .events) = omega (arith, h, long) in
-            rw (stamps-kept (t .form) c (startOf t) (t .events) (t .tracks) i l .1) (w .stamps i l);
+            rw (stamps-kept (t .form) c (begunOf t) (t .events) (t .tracks) i l .1) (w .stamps i l);
       }
 
   worked-right : asWorked (workedTracked t) ≡ true
-  worked-right = answered-right (t .form) c (startOf t) (t .events) (t .tracks)
+  worked-right = answered-right (t .form) c (begunOf t) (t .events) (t .tracks)
 
   same : asWorked t ≡ true → workedTracked t ≡ t
   same r =
-      same-sheet (workedTracked t) t refl refl refl (right-same (t .form) c (startOf t) (t .events) (t .tracks) (λ i h. four-same (getD (t .events) i []) (readable .four i h)) r) refl
+      same-sheet (workedTracked t) t refl refl refl (right-same (t .form) c (begunOf t) (t .events) (t .tracks) (λ i h. four-same (getD (t .events) i []) (readable .four i h)) r) refl
 
   -- 'the sheet's answers' are 'the ones that working its events gives'
   pub as-worked-iff : (asWorked t ≡ true) ↔ (encodeTracked (workedTracked t) ≡ s)

@@ -32,12 +32,12 @@ abbrev pub trackAt : Tracked → ℕ → ℕ
 trackAt t k = getD (t .tracks) (k - 1) 0
 
 -- the lines and head that the sheet's session begins with
-abbrev pub startOf : Tracked → AfterTwo
-startOf t = begunBy (t .form) (t .table) (t .stamp)
+abbrev pub begunOf : Tracked → AfterTwo
+begunOf t = begunBy (t .form) (t .table) (t .stamp)
 
 -- both lines and the head after the first i events, each taken on its track
 abbrev pub stateAfter : Tracked → ℕ → AfterTwo
-stateAfter t i = runBy (t .form) (circuitOf (t .table)) (startOf t) (take i (marked (t .events) (t .tracks)))
+stateAfter t i = runBy (t .form) (circuitOf (t .table)) (begunOf t) (take i (marked (t .events) (t .tracks)))
 
 -- the line of a track
 abbrev pub lineAt : ℕ → AfterTwo → List Post
@@ -70,7 +70,7 @@ rightAnswers form c a (e ∷ es) =
     eqb (answerOf e) (nextBy form c a e .told .answer) && rightAnswers form c (nextBy form c a e) es
 
 abbrev pub asWorked : Tracked → Bool
-asWorked t = rightAnswers (t .form) (circuitOf (t .table)) (startOf t) (marked (t .events) (t .tracks))
+asWorked t = rightAnswers (t .form) (circuitOf (t .table)) (begunOf t) (marked (t .events) (t .tracks))
 
 -- the event at position k exists and has one of the three answers
 unfoldable pub asked : Tracked → ℕ → Bool

@@ -25,7 +25,7 @@ use Rattle.working.proofs.Both.{marked-long, marked-at, begins, rows-next}
 use Rattle.working.proofs.Steps.{goes-by}
 use Rattle.working.specs.Run.{trackOf, marked, begunBy, nextBy}
 use Rattle.working.specs.Working.{beginBy}
-use Rattle.why.specs.Why.{startOf, stateAfter, lineAt, soAfter, lastMade, asWorked, sinceWhen}
+use Rattle.why.specs.Why.{begunOf, stateAfter, lineAt, soAfter, lastMade, asWorked, sinceWhen}
 use Rattle.why.proofs.OnRows.{few, held-on}
 use Rattle.why.proofs.Right.{Right, right-iff, wrong-at}
 use Rattle.why.proofs.Watched.{upTo, none-yet, one-more, all-watched}
@@ -57,7 +57,7 @@ module _ (t : Tracked) (right : (formOk twoTracks (t .form) && tableFits (t .for
   begun-rows r e =
       let z : r .told .answer ≡ 0 = ap (λ (x : StoodTwo). x .told .answer) e ∙ rw right refl in
       let b = begins (t .form) (t .table) (t .stamp) r e z in
-      rw (goes-by (t .form) (circuitOf (t .table)) .run-none (startOf t)) (b .first, b .second, b .head)
+      rw (goes-by (t .form) (circuitOf (t .table)) .run-none (begunOf t)) (b .first, b .second, b .head)
 
 -- event i, from 0, of the run
 abbrev after : Tracked → ℕ → AfterTwo
@@ -71,7 +71,7 @@ answer-at t i h = ap answerOf (marked-at (t .events) (t .tracks) i h)
 after-more : (t : Tracked) (i : ℕ) → i < length (t .events) → stateAfter t (i + 1) ≡ after t i
 after-more t i h =
     let xs = marked (t .events) (t .tracks) in
-    run-more (goes-by (t .form) (circuitOf (t .table))) (startOf t) xs xs refl i (omega (arith, marked-long (t .events) (t .tracks)))
+    run-more (goes-by (t .form) (circuitOf (t .table))) (begunOf t) xs xs refl i (omega (arith, marked-long (t .events) (t .tracks)))
 
 abbrev Inv-loop : tie.InvT-loop
 Inv-loop tracks table stamp events on track answer place position circuit first₀ second₀ s₀ was₀ since₀ i₀ here₀ first second s was since i here =
@@ -168,7 +168,7 @@ returns c =
     let t = said (a .tracks) (a .stamp) (a .table .now) (a .events .now) (a .on .now) in
     let h : l .loop .i < length (t .events) = c .before .before .before .before .before .before .before .loop-test .taken in
     let wrong : asWorked t ≡ false =
-    wrong-at (t .form) (circuitOf (t .table)) (startOf t) (marked (t .events) (t .tracks)) (l .loop .i) (omega (arith, h, marked-long (t .events) (t .tracks)))
+    wrong-at (t .form) (circuitOf (t .table)) (begunOf t) (marked (t .events) (t .tracks)) (l .loop .i) (omega (arith, h, marked-long (t .events) (t .tracks)))
     (λ r. c .before .if1 .taken (ap (λ (x : StoodTwo). x .told .answer) (turn (c .before .before .before .before)) ∙ sym r ∙ answer-at t (l .loop .i) h)) in
     rw (c .tell .ensures, wrong)
 
@@ -237,7 +237,7 @@ returns-2 c =
     let a = u .args in
     let t = said (a .tracks) (a .stamp) (a .table .now) (a .events .now) (a .on .now) in
     let right : asWorked t ≡ true =
-    right-iff (t .form) (circuitOf (t .table)) (startOf t) (marked (t .events) (t .tracks)) .1 (λ j h. l .loop .inv .8 j (omega (arith, h, marked-long (t .events) (t .tracks)))) in
+    right-iff (t .form) (circuitOf (t .table)) (begunOf t) (marked (t .events) (t .tracks)) .1 (λ j h. l .loop .inv .8 j (omega (arith, h, marked-long (t .events) (t .tracks)))) in
     c .tell2 .ensures ∙ rw (right, l .loop .inv .7, all-watched (lastMade t (a .track) (a .answer) (a .place)) _ (u .pre .1) (l .loop .i) (omega arith))
 
 pub watch-spec : {M : Type 1} → statement M
