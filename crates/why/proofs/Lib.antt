@@ -1,11 +1,15 @@
 pub mod Right
+pub mod Taken
 pub mod Watched
 pub mod Asked
 pub mod Says
+pub mod Track
 pub mod Made
 pub mod Start
+pub mod OnRows
 pub mod Cause
 pub mod Named
 pub mod One
+pub mod OneTrack
 pub mod Worked
 pub mod Paper

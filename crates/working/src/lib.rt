@@ -87,7 +87,7 @@ fn no_row() -> Row
 }
 
 // The circuit of a table of two tracks; 0 where the table is shorter.
-fn circuit_of(table: &[u32]) -> u32
+pub fn circuit_of(table: &[u32]) -> u32
     ensures { λ r. ⌜ r ≡ circuitOf (now (table .entry)) ⌝ }
 {
     let i = table.len() / 2 * 2;
@@ -115,7 +115,7 @@ fn begin_two(table: &[u32], stamp: u32) -> StoodTwo
 }
 
 // The rows that a session of a sheet of so many tracks begins with, or 1.
-fn begin(tracks: u32, table: &[u32], stamp: u32) -> StoodTwo
+pub fn begin(tracks: u32, table: &[u32], stamp: u32) -> StoodTwo
     ensures { λ r. ⌜ r ≡ beginBy tracks (now (table .entry)) stamp ⌝ }
 {
     let none = no_row();
@@ -141,7 +141,7 @@ fn begin(tracks: u32, table: &[u32], stamp: u32) -> StoodTwo
 }
 
 // One event of a sheet of so many tracks.
-fn step(
+pub fn step(
     tracks: u32,
     circuit: u32,
     first: Row,
@@ -168,7 +168,7 @@ fn step(
 }
 
 // The track of event `i`, 0 where there is none.
-fn track_at(on: &[u32], i: usize) -> u32
+pub fn track_at(on: &[u32], i: usize) -> u32
     ensures { λ r. ⌜ r ≡ getD (now (on .entry)) i 0 ⌝ }
 {
     if i < on.len() { on[i] } else { 0 }
