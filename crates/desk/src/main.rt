@@ -1,4 +1,4 @@
-// The desk's program: does what its words ask for with the sheet on standard input. 01, 'The program and one listing'; 02, item 1.
+// The desk's program: does what its words ask for with the sheet, of one track or of two, on standard input. 01, 'The program and one listing'; 02, items 1, 3 and 7.
 ghost use lib.ListN.{length};
 ghost use Rattle.stream.specs.Steps.{Within};
 
@@ -80,7 +80,7 @@ fn work_sheet() {
     let Reading::Whole(n) = read_input(&mut s) else {
         return;
     };
-    let done = working::work(&s[..n], &mut out);
+    let done = working::work_tracks(&s[..n], &mut out);
     if done.number != 0 {
         tell_refused(done.number, done.block as u64, done.position);
         return;

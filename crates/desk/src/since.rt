@@ -5,6 +5,7 @@ ghost use Rattle.listing.specs.Lines.{Lined};
 ghost use Rattle.desk.specs.Text.{startLine, sinceText};
 use listing::LINE;
 use sheet::layout::MOST_ENTRIES;
+use sheet::layout::MOST_TABLE;
 
 // '0' and the line feed, at the front; how long the line is.
 fn put_start(out: &mut [u8]) -> usize
@@ -20,7 +21,7 @@ fn put_start(out: &mut [u8]) -> usize
 pub fn since_text(s: &[u8], position: u32, out: &mut [u8; LINE]) -> usize
     ensures { λ r. ⌜ Lined (sinceText (now (s .entry)) position) r (now (out .entry)) (now (out .exit)) ⌝ }
 {
-    let since = why::since_when(s, position);
+    let since = why::since_when_tracks(s, position);
     if since.number != 0 {
         return listing::refused_line(out, since.number, since.block as u64, since.position);
     }
@@ -28,10 +29,11 @@ pub fn since_text(s: &[u8], position: u32, out: &mut [u8; LINE]) -> usize
     if at == 0 {
         return put_start(out);
     }
-    let mut kinds = [0u32; 32];
+    let mut table = [0u32; MOST_TABLE];
     let mut events = [[0u32; 4]; MOST_ENTRIES];
-    lent_sheet::read(s, &mut kinds, &mut events);
+    let mut on = [0u32; MOST_ENTRIES];
+    let found = lent_sheet::read_tracks(s, &mut table, &mut events, &mut on);
     let i = (at - 1) as usize;
     let e = events[i];
-    listing::event_line(out, at, e[0], e[1], e[2])
+    listing::event_line(out, at, e[0], e[1], e[2], found.tracks, on[i])
 }

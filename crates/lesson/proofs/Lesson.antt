@@ -3,10 +3,10 @@
 use Prim.Native.Nat.{ℕ, suc, _+_, _-_, _<_}
 use mathlib.Core.Path.{_≡_, refl, ap, subst, _∙_}
 use mathlib.Core.Bool.{true, false, _||_}
-use mathlib.Core.List.{List, [], _∷_, _++_}
+use mathlib.Core.List.{List, [], _∷_, _++_, append-nil}
 use native.Mathlib.Nat.{zero-add}
 use native.Mathlib.Omega.{arith}
-use borrow.Author.Tests.{eq-eqb, eqb-true, eqb-false}
+use borrow.Author.Tests.{eq-eqb, eqb-true, eqb-false, ltb-false}
 use lib.Dec.{eqb}
 use lib.ListN.{length, getD}
 use Rattle.relay.specs.Answers.{taken}
@@ -29,20 +29,23 @@ use Rattle.history.proofs.Passed.{reached-follows}
 use Rattle.history.proofs.Reopened.{reached-not-reopened}
 use Rattle.history.proofs.Runs.{reached-length, begun-length}
 use Rattle.sheet.specs.Entry.{numberOf, postOf, stampOf}
-use Rattle.sheet.specs.Reading.{blocksIn, verdict, verdictOf, decode}
-use Rattle.sheet.specs.declared.Verdict.{Verdict}
-use Rattle.working.specs.Run.{begun, next, run, answered}
+use Rattle.sheet.specs.Layout.{oneTrack}
+use Rattle.sheet.specs.Reading.{blocksIn, verdictOf, decode, decodeTracked}
+use Rattle.working.specs.Run.{begun, next, run, answered, marked}
 use Rattle.working.specs.Working.{worked, workVerdict, workOf, sectionNumbers}
-use Rattle.working.proofs.Named.{Unanswered, work-iff}
-use Rattle.working.proofs.Named as named
+use Rattle.working.proofs.Both.{marked-long, marked-at}
+use Rattle.working.proofs.Named.{Unanswered, none}
+use Rattle.working.proofs.OneTrack.{one, events-one, end-one, worked-one}
 use Rattle.working.proofs.Steps.{answered-long}
+use Rattle.working.proofs.Taken.{taken-too}
 use Rattle.working.proofs.Twice.{answered-at}
 use Rattle.working.proofs.Works.{said-table}
-use Rattle.listing.specs.Lines.{sectionLine}
-use Rattle.listing.specs.Listing.{lineAfter, listingOf}
+use Rattle.listing.specs.Lines.{trackNamed, sectionLine}
+use Rattle.listing.specs.Listing.{listingOf}
 use Rattle.digits.specs.Texts.{joined}
-use Rattle.listing.proofs.Numbered.{eventText, sectionText, joined-same, listing-lines}
-use Rattle.lesson.specs.Lesson.{asked, onto, shown, sectionSays, takenIn, lastStamp, answerAt, eventSaid, sectionSaid, said}
+use Rattle.listing.proofs.Numbered.{eventText, sectionText, joined-same, lines-joined}
+use Rattle.listing.proofs.Sheets.{listing-worked}
+use Rattle.lesson.specs.Lesson.{asked, onto, shown, sectionSays, takenIn, lastStamp, lineAfter, answerAt, eventSaid, sectionSaid, said}
 
 -- ---- working, as a line that events befall
 abbrev as-state : List Entry → After → State
@@ -186,15 +189,20 @@ module _ (s : List ℕ) (z : verdictOf s .number ≡ 0) where
   -- the listing, byte for byte, where no event is answered yet: each line of an event has the answer of its run, and each line of a section what
   -- the worked sheet's own history says
   pub listing-says : Unanswered s (blocksIn (length s)) → listingOf s ≡ said (decode s)
-  unfolding said answerAt
+  unfolding said answerAt trackNamed joined
   listing-says u =
-      let w = ap (λ (v : Verdict). v .number) (work-iff s (length s) (verdict 0 0) .1 (named.fits z u (omega arith))) in
       let t = decode s in
+      let ts = decodeTracked s .tracks in
       let b = begun (t .kinds) (t .stamp) in
-      let e : joined (eventText (worked t .events)) (length (worked t .events)) ≡ joined (eventSaid t) (length (t .events)) =
-      rw (answered-long b (t .events))
-      (joined-same (eventText (worked t .events)) (eventSaid t) (length (t .events)) (λ i h. rw (answered-at b (t .events) i h))) in
-      let k : joined (sectionText (lineAfter t)) (length (lineAfter t) - 1) ≡ joined (sectionSaid t) (length (t .kinds) - 1) =
+      let es = worked t .events in
+      let fresh = ltb-false _ _ (none oneTrack s z u) in
+      let long : length (marked es ts) ≡ length (t .events) = marked-long es ts ∙ answered-long b (t .events) in
+      let e : joined (eventText oneTrack (marked es ts)) (length (marked es ts)) ≡ joined (eventSaid t) (length (t .events)) =
+      rw long
+      (joined-same (eventText oneTrack (marked es ts)) (eventSaid t) (length (t .events)) (λ i h. rw (marked-at es ts i (omega (arith, h, answered-long b (t .events))), answered-at b (t .events) i h) refl)) in
+      let k : joined (sectionText [] (lineAfter t)) (length (lineAfter t) - 1) ≡ joined (sectionSaid t) (length (t .kinds) - 1) =
       rw (posts (t .kinds) (t .stamp) (said-table s z) (t .events))
-      (joined-same (sectionText (lineAfter t)) (sectionSaid t) (length (t .kinds) - 1) (λ i h. ap sectionLine (sheet-says i (omega arith)))) in
-      listing-lines s w ∙ rw (e, k)
+      (joined-same (sectionText [] (lineAfter t)) (sectionSaid t) (length (t .kinds) - 1) (λ i h. ap (λ (ns : List ℕ). sectionLine ns []) (sheet-says i (omega arith)))) in
+      listing-worked s (taken-too s z) (rw (events-one s z) fresh)
+      ∙ lines-joined (decodeTracked s)
+      ∙ rw (worked-one s z, end-one s z, one s z, e, k, append-nil) refl

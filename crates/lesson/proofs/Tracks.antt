@@ -1,6 +1,6 @@
 -- Demand 3 for each track of a worked sheet of two: what working leaves of a track's line is what the sheet's own events and answers on that track say.
 -- The states of working are those of a session on two tracks, event by event; so each theorem of crates/tracks is one of the sheet.
-use Prim.Native.Nat.{ℕ, suc, _+_, _*_, _/_, _%_, _<_}
+use Prim.Native.Nat.{ℕ, suc, _+_, _-_, _*_, _/_, _%_, _<_}
 use mathlib.Core.Path.{_≡_, refl, sym, ap, subst, _∙_}
 use mathlib.Core.Bool.{Bool, true, false, _&&_, _||_}
 use mathlib.Core.List.{List, [], _∷_, _++_}
@@ -8,13 +8,14 @@ use native.Mathlib.Omega.{arith}
 use borrow.Author.Tests.{eq-eqb}
 use lib.Dec.{eqb, leb}
 use lib.ListN.{length, getD, drop}
-use Rattle.relay.specs.Choice.{pick}
+use Rattle.relay.specs.Choice.{pick, one}
 use Rattle.relay.specs.Examples.{blanks}
 use Rattle.relay.specs.Kinds.{ordinary, tableOk, blocksAtPedal}
 use Rattle.relay.specs.Line.{head, startable, freshLine}
 use Rattle.relay.specs.Posts.{at}
 use Rattle.relay.specs.Relays.{An, up}
 use Rattle.relay.specs.declared.Post.{Post}
+use Rattle.relay.proofs.Fresh.{length-fresh}
 use Rattle.relay.proofs.Frame.{head-moves, refused-alters-nothing}
 use Rattle.relay.proofs.Truth.{and-facts, split}
 use Rattle.history.specs.History.{Entry, entry, did, isOpen, releases, announced, tally}
@@ -30,10 +31,16 @@ use Rattle.tracks.proofs.Demand as demand
 use Rattle.tracks.proofs.Kept.{two-moves, two-refused}
 use Rattle.working.specs.Run.{trackOf, marked, begunBy, nextBy, runBy, answersBy}
 use Rattle.working.specs.Working.{endOf, workedTracked, sectionNumbers}
-use Rattle.working.proofs.Both.{first-long, second-long, circuit-same}
-use Rattle.working.proofs.WorksTracks.{said-start}
+use Rattle.working.proofs.Along.{said-at}
+use Rattle.working.proofs.Both.{marked-long, marked-at, first-long, second-long, circuit-same, run-long}
+use Rattle.working.proofs.Steps.{goes-by}
+use Rattle.working.proofs.WorksTracks.{worked-long, said-start}
+use Rattle.listing.specs.Lines.{trackNamed, sectionLine}
+use Rattle.listing.specs.Listing.{answerTo, listingOf}
+use Rattle.listing.proofs.Numbered.{eventText, sectionText, joined-same, lines-joined, listing-lines}
+use Rattle.digits.specs.Texts.{joined}
 use Rattle.lesson.specs.Lesson.{asked, onto, shown, sectionSays, takenIn, lastStamp}
-use Rattle.lesson.specs.Tracks.{ontoTrack, shownOn}
+use Rattle.lesson.specs.Tracks.{ontoTrack, shownOn, eventOn, answerOn, eventSaidOn, kindsOn, sectionSaidOn, saidOn}
 use Rattle.lesson.proofs.Lesson.{blanks-long, head-moved}
 
 -- what is asked of the desk by the events of a sheet
@@ -230,3 +237,39 @@ module _ (s : List ℕ) (z : verdictUpTo twoTracks s .number ≡ 0) (two : decod
       → sectionNumbers i (post (decodeTracked s) two right-tables b i) (post (decodeTracked s) two right-tables b (i + 1))
       ≡ sectionSays (kinds (decodeTracked s) two right-tables b) i (told (decodeTracked s) two right-tables b) (post (decodeTracked s) two right-tables b i)
   sheet-says = section-says (decodeTracked s) two right-tables
+
+  -- ---- the listing, byte for byte, where the sheet is worked: each line of an event has the answer of its run, and each line of a section what
+  -- the worked sheet's own history of its track says
+  abbrev t : Tracked
+  t = decodeTracked s
+
+  abbrev xs : List (List ℕ)
+  xs = marked (t .events) (t .tracks)
+
+  abbrev line : Bool → List Post
+  line b = ofTrack b (endOf t .first) (endOf t .second)
+
+  -- each line of posts is as long as its table
+  line-long : (b : Bool) → length (line b) ≡ length (kindsOn b t)
+  unfolding begunBy
+  line-long false = run-long (t .form) (circuitOf (t .table)) (begunBy (t .form) (t .table) (t .stamp)) xs .0 ∙ rw two (length-fresh (firstKinds (t .table)))
+  line-long true = run-long (t .form) (circuitOf (t .table)) (begunBy (t .form) (t .table) (t .stamp)) xs .1 ∙ rw two (length-fresh (secondKinds (t .table)))
+
+  sections-say : (b : Bool) → joined (sectionText (trackNamed (t .form) (one b)) (line b)) (length (line b) - 1) ≡ joined (sectionSaidOn b t) (length (kindsOn b t) - 1)
+  sections-say b =
+      rw (line-long b)
+      (joined-same (sectionText (trackNamed (t .form) (one b)) (line b)) (sectionSaidOn b t) (length (kindsOn b t) - 1) (λ i h. ap (λ (ns : List ℕ). sectionLine ns (trackNamed (t .form) (one b))) (sheet-says b i (omega arith))))
+
+  events-say : joined (eventText (t .form) (marked (workedTracked t .events) (t .tracks))) (length (marked (workedTracked t .events) (t .tracks))) ≡ joined (eventSaidOn t) (length (t .events))
+  unfolding answerOn
+  events-say =
+      let ws = workedTracked t .events in
+      let long = worked-long s z in
+      rw (marked-long ws (t .tracks) ∙ long)
+      (joined-same (eventText (t .form) (marked ws (t .tracks))) (eventSaidOn t) (length (t .events)) (λ i h.
+      let track : trackOf (eventOn t i) ≡ getD (t .tracks) i 0 = ap trackOf (marked-at (t .events) (t .tracks) i h) in
+      rw (marked-at ws (t .tracks) i (omega (arith, h, long)), said-at (goes-by (t .form) (circuitOf (t .table))) (begunBy (t .form) (t .table) (t .stamp)) xs i (omega (arith, h, marked-long (t .events) (t .tracks))), track) refl))
+
+  pub listing-says : answerTo s .number ≡ 0 → listingOf s ≡ saidOn t
+  unfolding saidOn
+  listing-says w = listing-lines s w ∙ lines-joined t ∙ rw (events-say, sections-say false, sections-say true) refl

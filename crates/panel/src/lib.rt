@@ -7,7 +7,7 @@ ghost use Rattle.sheet.specs.Check.{checksAlone};
 ghost use Rattle.sheet.specs.Layout.{twoTracks};
 ghost use Rattle.sheet.specs.Reading.{Reads, ReadsTracks, verdictOf, verdictUpTo};
 ghost use Rattle.sheet.specs.Writing.{Writes, WritesTracked};
-ghost use Rattle.why.specs.Why.{sinceOf};
+ghost use Rattle.why.specs.Why.{sinceOf, sinceTracksOf};
 ghost use Rattle.working.specs.Working.{Works, WorksTracks};
 use exporting::Exported;
 use importing::Imported;
@@ -124,4 +124,12 @@ pub extern "C" fn desk_work_tracks(s: &[u8], out: &mut [u8]) -> WorkedTracks
     ensures { λ r. ⌜ WorksTracks (now (s .entry)) r (now (out .entry)) (now (out .exit)) ⌝ }
 {
     working::work_tracks(s, out)
+}
+
+// Since when what a refusal of 8, 9 or 13 says is so, in a sheet of one track or of two.
+#[no_mangle]
+pub extern "C" fn desk_why_tracks(s: &[u8], position: u32) -> Since
+    ensures { λ r. ⌜ r ≡ sinceTracksOf (now (s .entry)) position ⌝ }
+{
+    why::since_when_tracks(s, position)
 }

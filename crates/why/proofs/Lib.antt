@@ -1,5 +1,4 @@
 pub mod Right
-pub mod Taken
 pub mod Watched
 pub mod Asked
 pub mod Says

@@ -31,7 +31,7 @@ use Rattle.working.specs.Working.{workedTracked}
 use Rattle.why.specs.Why.{noSuchRefusal, begunOf, rightAnswers, asWorked, asked, sinceWhen, sinceUpTo}
 use Rattle.why.specs.declared.Since.{Since}
 use Rattle.why.proofs.Asked.{since-in, since-not-asked}
-use Rattle.why.proofs.Taken.{form-most}
+use Rattle.working.proofs.Taken.{form-most}
 
 -- ---- events, each with its track
 module _ (form c : ℕ) where
@@ -98,7 +98,7 @@ module _ (most : ℕ) (fits : most ≤ twoTracks) (s : List ℕ) (small : Below 
   long = said-long (goes-by (t .form) c) _ (marked (t .events) (t .tracks)) ∙ marked-long (t .events) (t .tracks)
 
   -- the worked sheet can be written, so it reads back
-  worked-writable : WritableTracked (workedTracked t)
+  pub worked-writable : WritableTracked (workedTracked t)
   worked-writable =
       let w = readable in
       record {

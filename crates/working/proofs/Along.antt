@@ -32,6 +32,12 @@ module _ {S : Type 0} {f : S → List ℕ → S} {g : S → List ℕ → List �
   said-long a [] = rw (w .said-none a) refl
   said-long a (e ∷ es) = rw (w .said-first a e es) (ap suc (said-long (f a e) es))
 
+  -- what is said of event i, where it stands
+  pub said-at : (a : S) (es : List (List ℕ)) (i : ℕ) → i < length es → getD (said a es) i [] ≡ g (run a (take i es)) (getD es i [])
+  said-at a [] i h = absurd (omega (arith, h))
+  said-at a (e ∷ es) zero h = rw (w .said-first a e es, w .run-none a) refl
+  said-at a (e ∷ es) (suc i) h = rw (w .said-first a e es, w .run-first a e (take i es)) (said-at (f a e) es i (omega arith))
+
   -- the events xs, and a room of as many into which what is said of them is stored
   module _ (a : S) (xs room : List (List ℕ)) (same : length xs ≡ length room) (i : ℕ) (h : i < length xs) where
     abbrev now : S

@@ -147,7 +147,7 @@ next-long form c a e =
     (λ y. rw y (two-long c (a .first) (a .second) (a .told .head) _ _ _ _))
     (λ y. rw y (length-stays (a .first) (a .told .head) _ _ _, refl))
 
-run-long : (form c : ℕ) (a : AfterTwo) (es : List (List ℕ)) → (length (runBy form c a es .first) ≡ length (a .first)) × (length (runBy form c a es .second) ≡ length (a .second))
+pub run-long : (form c : ℕ) (a : AfterTwo) (es : List (List ℕ)) → (length (runBy form c a es .first) ≡ length (a .first)) × (length (runBy form c a es .second) ≡ length (a .second))
 unfolding runBy
 run-long form c a [] = (refl, refl)
 run-long form c a (e ∷ es) =

@@ -9,3 +9,5 @@ pub mod Twice
 pub mod One
 pub mod Named
 pub mod Paper
+pub mod OneTrack
+pub mod Taken

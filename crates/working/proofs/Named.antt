@@ -18,36 +18,36 @@ use Rattle.sheet.proofs.Rooms.{placed, all-events, events-long}
 use Rattle.sheet.proofs.Tabs.{getD-tab}
 use Rattle.sheet.specs.Check.{word}
 use Rattle.sheet.specs.Entry.{answerOf, answerIn}
-use Rattle.sheet.specs.Layout.{perBlock, unanswered, contentsWrong, roomShort, upperBits, oneTrack}
-use Rattle.sheet.specs.Reading.{verdict, verdictOf, accepted, blocksIn, entriesIn, entryIn, decode}
+use Rattle.sheet.specs.Layout.{perBlock, unanswered, contentsWrong, roomShort, upperBits}
+use Rattle.sheet.specs.Reading.{verdict, verdictUpTo, blocksIn, entriesIn, entryIn, decode}
 use Rattle.sheet.specs.declared.Verdict.{Verdict}
 use Rattle.working.proofs.Answers.{unanswered-before, answered-there}
-use Rattle.working.specs.Working.{firstAnswered, workVerdict, workVerdictUpTo}
+use Rattle.working.specs.Working.{firstAnswered, workVerdictUpTo}
 
 -- no later block before block e has an answer other than 31
 abbrev pub Unanswered : List ℕ → ℕ → Type 0
 Unanswered s e = (b j : ℕ) → 1 ≤ b → b < e → j < word s b 0 → answerIn (word s b (1 + j * 2)) ≡ unanswered
 
--- what a verdict on working a sheet may be, with an output of m bytes
-pub data NamedWork (s : List ℕ) (m : ℕ) : Verdict → Type 0 where
+-- what a verdict on working a sheet of so many tracks at the most may be, with an output of m bytes
+pub data NamedWork (most : ℕ) (s : List ℕ) (m : ℕ) : Verdict → Type 0 where
   -- 'reads it whole first'
-  unread : {v : Verdict} → (v .number ≡ 0 → ⊥) → NamedSheet oneTrack s v → NamedWork s m v
+  unread : {v : Verdict} → (v .number ≡ 0 → ⊥) → NamedSheet most s v → NamedWork most s m v
   -- 'refuses 20 at the first block with an answer other than 31'
-  answered : (b j : ℕ) → verdictOf s .number ≡ 0 → 1 ≤ b → b < blocksIn (length s) → j < word s b 0
+  answered : (b j : ℕ) → verdictUpTo most s .number ≡ 0 → 1 ≤ b → b < blocksIn (length s) → j < word s b 0
       → (answerIn (word s b (1 + j * 2)) ≡ unanswered → ⊥)
       → Unanswered s b
-      → NamedWork s m (verdict contentsWrong b)
+      → NamedWork most s m (verdict contentsWrong b)
   -- 'needs an output at least as long as the sheet (else 21)'
-  short : verdictOf s .number ≡ 0 → Unanswered s (blocksIn (length s)) → m < length s → NamedWork s m (verdict roomShort 0)
-  fits : verdictOf s .number ≡ 0 → Unanswered s (blocksIn (length s)) → length s ≤ m → NamedWork s m (verdict 0 0)
+  short : verdictUpTo most s .number ≡ 0 → Unanswered s (blocksIn (length s)) → m < length s → NamedWork most s m (verdict roomShort 0)
+  fits : verdictUpTo most s .number ≡ 0 → Unanswered s (blocksIn (length s)) → length s ≤ m → NamedWork most s m (verdict 0 0)
 
 -- ---- places
-module _ (s : List ℕ) (z : verdictOf s .number ≡ 0) where
+module _ (most : ℕ) (s : List ℕ) (z : verdictUpTo most s .number ≡ 0) where
   abbrev n : ℕ
   n = blocksIn (length s)
 
-  good : Good oneTrack n s
-  good = accepted-good oneTrack s z
+  good : Good most n s
+  good = accepted-good most s z
 
   -- each place of a block up to its number is an event's
   event-at : (b j : ℕ) → 1 ≤ b → b < n → j < word s b 0 → (b - 1) * perBlock + j < entriesIn s
@@ -92,68 +92,68 @@ module _ (s : List ℕ) (z : verdictOf s .number ≡ 0) where
   -- and its events come before it where it has none
   after : (e : ℕ) → Unanswered s e → (i : ℕ) → i < entriesIn s → 1 + i / perBlock < e → i ≡ first → ⊥
   after e u i h k q =
-      answered-there (decode s .events) (omega (arith, long)) (rw (← q) (answer-at i h ∙ u (1 + i / perBlock) (i % perBlock) (omega arith) k (placed oneTrack s z i h .1)))
+      answered-there (decode s .events) (omega (arith, long)) (rw (← q) (answer-at i h ∙ u (1 + i / perBlock) (i % perBlock) (omega arith) k (placed most s z i h .1)))
 
 -- ---- what working refuses
-work-named : (s : List ℕ) (m : ℕ) → NamedWork s m (workVerdict s m)
+work-named : (most : ℕ) (s : List ℕ) (m : ℕ) → NamedWork most s m (workVerdictUpTo most s m)
 unfolding workVerdictUpTo
-work-named s m =
-    split (accepted s)
+work-named most s m =
+    split (eqb (verdictUpTo most s .number) 0)
     (λ a.
-    let z = eqb-true (verdictOf s .number) 0 a in
-    split (ltb (first s z) (length (decode s .events)))
+    let z = eqb-true (verdictUpTo most s .number) 0 a in
+    split (ltb (first most s z) (length (decode s .events)))
     (λ t.
-    let l = ltb-true (first s z) (length (decode s .events)) t in
-    let p = placed oneTrack s z (first s z) (omega (arith, long s z)) in
+    let l = ltb-true (first most s z) (length (decode s .events)) t in
+    let p = placed most s z (first most s z) (omega (arith, long most s z)) in
     rw (a, t)
-    (answered (1 + first s z / perBlock) (first s z % perBlock) z (omega arith) (p .0) (p .1)
-    (λ e. answered-there (decode s .events) l (answer-at s z (first s z) (omega (arith, long s z)) ∙ e))
-    (before s z (1 + first s z / perBlock) (omega (arith, p .0)) (λ i h k. omega arith))))
+    (answered (1 + first most s z / perBlock) (first most s z % perBlock) z (omega arith) (p .0) (p .1)
+    (λ e. answered-there (decode s .events) l (answer-at most s z (first most s z) (omega (arith, long most s z)) ∙ e))
+    (before most s z (1 + first most s z / perBlock) (omega (arith, p .0)) (λ i h k. omega arith))))
     (λ t.
-    let none = ltb-false (first s z) (length (decode s .events)) t in
-    let u = before s z (blocksIn (length s)) (omega arith) (λ i h k. omega (arith, long s z)) in
+    let none = ltb-false (first most s z) (length (decode s .events)) t in
+    let u = before most s z (blocksIn (length s)) (omega arith) (λ i h k. omega (arith, long most s z)) in
     split (leb (length s) m)
     (λ r. rw (a, t, r) (fits z u (leb-true (length s) m r)))
     (λ r. rw (a, t, r) (short z u (leb-false (length s) m r)))))
-    (λ a. rw a (unread (eqb-false (verdictOf s .number) 0 a) (verdict-iff oneTrack s (verdictOf s) .0 refl)))
+    (λ a. rw a (unread (eqb-false (verdictUpTo most s .number) 0 a) (verdict-iff most s (verdictUpTo most s) .0 refl)))
 
 -- no event is answered where no block has an answer
-none : (s : List ℕ) (z : verdictOf s .number ≡ 0) → Unanswered s (blocksIn (length s)) → ltb (first s z) (length (decode s .events)) ≡ false
-none s z u =
-    least-or-below (length (decode s .events)) (first s z)
-    (λ h. le-ltb (first s z) (length (decode s .events)) h)
+pub none : (most : ℕ) (s : List ℕ) (z : verdictUpTo most s .number ≡ 0) → Unanswered s (blocksIn (length s)) → ltb (first most s z) (length (decode s .events)) ≡ false
+none most s z u =
+    least-or-below (length (decode s .events)) (first most s z)
+    (λ h. le-ltb (first most s z) (length (decode s .events)) h)
     (λ h.
-    let l : first s z < entriesIn s = omega (arith, long s z) in
-    absurd (after s z (blocksIn (length s)) u (first s z) l (placed oneTrack s z (first s z) l .0) refl))
+    let l : first most s z < entriesIn s = omega (arith, long most s z) in
+    absurd (after most s z (blocksIn (length s)) u (first most s z) l (placed most s z (first most s z) l .0) refl))
 
-names-work : (s : List ℕ) (m : ℕ) (v : Verdict) → NamedWork s m v → workVerdict s m ≡ v
+names-work : (most : ℕ) (s : List ℕ) (m : ℕ) (v : Verdict) → NamedWork most s m v → workVerdictUpTo most s m ≡ v
 unfolding workVerdictUpTo
-names-work s m v (unread h b) = let e = verdict-iff oneTrack s v .1 b in rw (e, ne-eqb (v .number) 0 h)
-names-work s m v (answered b j z h k l q u) =
+names-work most s m v (unread h b) = let e = verdict-iff most s v .1 b in rw (e, ne-eqb (v .number) 0 h)
+names-work most s m v (answered b j z h k l q u) =
     let i = (b - 1) * perBlock + j in
-    let there = event-at s z b j h k l in
-    let few = good s z .many b h k in
-    let most : first s z ≤ i =
-    least-or-below (first s z) i (λ x. x)
-    (λ x. absurd (q (sym (at-place s z b j h k l) ∙ unanswered-before (decode s .events) i x (omega (arith, long s z))))) in
-    let here : 1 + first s z / perBlock ≡ b =
-    least-or-below b (1 + first s z / perBlock)
+    let there = event-at most s z b j h k l in
+    let few = good most s z .many b h k in
+    let least : first most s z ≤ i =
+    least-or-below (first most s z) i (λ x. x)
+    (λ x. absurd (q (sym (at-place most s z b j h k l) ∙ unanswered-before (decode s .events) i x (omega (arith, long most s z))))) in
+    let here : 1 + first most s z / perBlock ≡ b =
+    least-or-below b (1 + first most s z / perBlock)
     (λ x. omega arith)
-    (λ x. absurd (after s z b u (first s z) (omega arith) x refl)) in
-    rw (eq-eqb (verdictOf s .number) 0 z, lt-ltb (first s z) (length (decode s .events)) (omega (arith, long s z)), here)
-names-work s m v (short z u h) = rw (eq-eqb (verdictOf s .number) 0 z, none s z u, lt-leb (length s) m h)
-names-work s m v (fits z u h) = rw (eq-eqb (verdictOf s .number) 0 z, none s z u, le-leb (length s) m h)
+    (λ x. absurd (after most s z b u (first most s z) (omega arith) x refl)) in
+    rw (eq-eqb (verdictUpTo most s .number) 0 z, lt-ltb (first most s z) (length (decode s .events)) (omega (arith, long most s z)), here)
+names-work most s m v (short z u h) = rw (eq-eqb (verdictUpTo most s .number) 0 z, none most s z u, lt-leb (length s) m h)
+names-work most s m v (fits z u h) = rw (eq-eqb (verdictUpTo most s .number) 0 z, none most s z u, le-leb (length s) m h)
 
 -- 18 to 21 and 24 'given exactly when', with the block and the event's position: a verdict is that of working exactly when it may be named
-pub work-iff : (s : List ℕ) (m : ℕ) (v : Verdict) → (workVerdict s m ≡ v) ↔ NamedWork s m v
-work-iff s m v = (λ e. subst (NamedWork s m) e (work-named s m), names-work s m v)
+pub work-iff : (most : ℕ) (s : List ℕ) (m : ℕ) (v : Verdict) → (workVerdictUpTo most s m ≡ v) ↔ NamedWork most s m v
+work-iff most s m v = (λ e. subst (NamedWork most s m) e (work-named most s m), names-work most s m v)
 
 -- 02, item 6: the position is 0 where no event's word is named
-work-none : (s : List ℕ) (m : ℕ) (v : Verdict) → NamedWork s m v → (v .number ≡ upperBits → ⊥) → v .position ≡ 0
-work-none s m v (unread h b) n = named-none oneTrack s v b n
-work-none s m v (answered b j z h k l q u) n = refl
-work-none s m v (short z u h) n = refl
-work-none s m v (fits z u h) n = refl
+work-none : (most : ℕ) (s : List ℕ) (m : ℕ) (v : Verdict) → NamedWork most s m v → (v .number ≡ upperBits → ⊥) → v .position ≡ 0
+work-none most s m v (unread h b) n = named-none most s v b n
+work-none most s m v (answered b j z h k l q u) n = refl
+work-none most s m v (short z u h) n = refl
+work-none most s m v (fits z u h) n = refl
 
-pub work-names-none : (s : List ℕ) (m : ℕ) → (workVerdict s m .number ≡ upperBits → ⊥) → workVerdict s m .position ≡ 0
-work-names-none s m = work-none s m (workVerdict s m) (work-named s m)
+pub work-names-none : (most : ℕ) (s : List ℕ) (m : ℕ) → (workVerdictUpTo most s m .number ≡ upperBits → ⊥) → workVerdictUpTo most s m .position ≡ 0
+work-names-none most s m = work-none most s m (workVerdictUpTo most s m) (work-named most s m)

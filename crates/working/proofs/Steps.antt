@@ -11,7 +11,7 @@ use Rattle.working.proofs.Along as along
 use Rattle.working.proofs.Along.{Goes, said-long}
 
 -- the run of a sheet of one track
-goes : Goes next (λ a e. answeredBy e (next a e .told .answer)) run answered
+pub goes : Goes next (λ a e. answeredBy e (next a e .told .answer)) run answered
 unfolding run answered
 goes = record { run-none = λ a. refl; run-first = λ a e es. refl; said-none = λ a. refl; said-first = λ a e es. refl }
 

@@ -27,7 +27,8 @@ use Rattle.sheet.specs.Layout.{perBlock, unanswered, contentsWrong, oneTrack}
 use Rattle.sheet.specs.Reading.{verdict, verdictOf, blocksIn, entriesIn, entryIn, decode}
 use Rattle.sheet.specs.Sheet.{Sheet, encode}
 use Rattle.working.proofs.Answers.{unanswered-before}
-use Rattle.working.proofs.Steps.{answered-long}
+use Rattle.working.proofs.Along.{said-at}
+use Rattle.working.proofs.Steps.{goes, answered-long}
 use Rattle.working.proofs.Works.{fields-kept}
 use Rattle.working.specs.Run.{begun, next, run, answeredBy, answered}
 use Rattle.working.specs.Working.{firstAnswered, blank, setBack, worked, workVerdict, workVerdictUpTo}
@@ -41,10 +42,7 @@ only-answers a (e ∷ es) = ap (λ (l : List (List ℕ)). answeredBy e unanswere
 -- each event is itself, with the answer that it gets from the line as the events before it left it
 pub answered-at : (a : After) (es : List (List ℕ)) (i : ℕ) → i < length es
     → getD (answered a es) i [] ≡ answeredBy (getD es i []) (next (run a (take i es)) (getD es i []) .told .answer)
-unfolding answered run
-answered-at a [] i h = absurd (omega (arith, h))
-answered-at a (e ∷ es) zero h = refl
-answered-at a (e ∷ es) (suc i) h = answered-at (next a e) es i (omega arith)
+answered-at = said-at goes
 
 -- the first event of a worked sheet is answered
 first-of : (a : After) (es : List (List ℕ)) → 1 ≤ length es → firstAnswered (answered a es) ≡ 0

@@ -5,7 +5,7 @@ use mathlib.Core.Path.{_≡_, refl, sym, ap, subst, _∙_}
 use mathlib.Core.Bool.{Bool, true, false, not, _&&_}
 use mathlib.Core.List.{List, [], _∷_, _++_}
 use native.Mathlib.Omega.{arith}
-use borrow.Author.Tests.{eq-eqb, ne-eqb, le-leb, lt-leb, lt-ltb, le-ltb, eqb-false}
+use borrow.Author.Tests.{eq-eqb, ne-eqb, le-leb, lt-leb, lt-ltb, le-ltb, eqb-true, eqb-false}
 use lib.Dec.{eqb, ltb}
 use lib.ListN.{length, drop, getD}
 use Rattle.relay.proofs.Frame.{answer-is, answer-small}
@@ -42,6 +42,14 @@ module _ (s : List ℕ) (out : List ℕ) where
   pub works-unread : eqb (verdictUpTo twoTracks s .number) 0 ≡ false → WorksTracks s (refusedTracks (verdictUpTo twoTracks s)) out out
   unfolding workVerdictUpTo
   works-unread h = refuse-with (verdictUpTo twoTracks s) (rw h refl) (eqb-false (verdictUpTo twoTracks s .number) 0 h)
+
+  -- a sheet that is worked was accepted
+  pub accepts : (m : ℕ) → workTracksOf s m .number ≡ 0 → verdictUpTo twoTracks s .number ≡ 0
+  unfolding workTracksOf workVerdictUpTo
+  accepts m e =
+      split (eqb (verdictUpTo twoTracks s .number) 0)
+      (λ t. eqb-true (verdictUpTo twoTracks s .number) 0 t)
+      (λ f. let same : workVerdictUpTo twoTracks s m ≡ verdictUpTo twoTracks s = rw f refl in rw (same, f) at e)
 
   module _ (z : verdictUpTo twoTracks s .number ≡ 0) where
     read : eqb (verdictUpTo twoTracks s .number) 0 ≡ true

@@ -1,11 +1,12 @@
 -- `desk::work_sheet` is safe: a sheet that is worked is accepted, and no longer than the room for the worked one.
-use mathlib.Core.Path.{sym}
+use mathlib.Core.Path.{sym, ap, _∙_}
 use native.Mathlib.Omega.{arith}
 use borrow.Author.Needs.{needs}
 use lib.Seq.{length-take-le}
-use Rattle.sheet.specs.Layout.{oneTrack}
+use Rattle.sheet.specs.Layout.{twoTracks}
 use Rattle.sheet.proofs.Rooms.{not-long}
-use Rattle.listing.proofs.Sheets.{listing-worked}
+use Rattle.working.proofs.WorksTracks.{accepts}
+use Rattle.working.specs.declared.WorkedTracks.{WorkedTracks}
 use Rattle.desk.proofs.work_sheet.Statement.{statement}
 use Rattle.desk.proofs.work_sheet.Tie as tie
 
@@ -24,14 +25,14 @@ returns c = search needs
 array-share-prefix-s : tie.Need-array-share-prefix-s
 array-share-prefix-s c = rw (c .before .n .given .1) at (c .before .before .before .read-input .ensures)
 
-slice-aggregate-work : tie.Need-slice-aggregate-work
-slice-aggregate-work c = sym (length-take-le _ _ (array-share-prefix-s (c .before)))
+slice-aggregate-work-tracks : tie.Need-slice-aggregate-work-tracks
+slice-aggregate-work-tracks c = sym (length-take-le _ _ (array-share-prefix-s (c .before)))
 
-slice-aggregate-work-2 : tie.Need-slice-aggregate-work-2
-slice-aggregate-work-2 c = search needs
+slice-aggregate-work-tracks-2 : tie.Need-slice-aggregate-work-tracks-2
+slice-aggregate-work-tracks-2 c = search needs
 
-work-requires : tie.Need-work-requires
-work-requires c κs = search needs
+work-tracks-requires : tie.Need-work-tracks-requires
+work-tracks-requires c κs = search needs
 
 cast-tell-refused : tie.Need-cast-tell-refused
 cast-tell-refused c = search needs
@@ -45,8 +46,8 @@ returns-2 c = search needs
 array-share-prefix-out : tie.Need-array-share-prefix-out
 array-share-prefix-out c =
     let w = c .before .before .before in
-    let d = listing-worked _ _ (sym (slice-aggregate-work-2 (w .before))) (w .work .result) (w .work .last .1 .0) (w .work .ensures) (c .if1 .left) in
-    omega (arith, not-long oneTrack _ (d .accepted), slice-aggregate-work (w .before .before), slice-aggregate-work-2 (w .before), w .work .kept .1 .0)
+    let z = accepts _ _ _ (sym (ap (λ (x : WorkedTracks). x .number) (w .work-tracks .ensures .0)) ∙ c .if1 .left) in
+    omega (arith, not-long twoTracks _ z, slice-aggregate-work-tracks (w .before .before), slice-aggregate-work-tracks-2 (w .before), w .work-tracks .kept .1 .0)
 
 slice-aggregate-print : tie.Need-slice-aggregate-print
 slice-aggregate-print c = sym (length-take-le _ _ (array-share-prefix-out (c .before)))
@@ -66,9 +67,9 @@ work-sheet-spec =
     enum-told
     returns
     array-share-prefix-s
-    slice-aggregate-work
-    slice-aggregate-work-2
-    work-requires
+    slice-aggregate-work-tracks
+    slice-aggregate-work-tracks-2
+    work-tracks-requires
     cast-tell-refused
     tell-refused-requires
     returns-2
