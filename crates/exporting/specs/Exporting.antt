@@ -1,5 +1,5 @@
 -- Export. 02, item 3: 'Export a sheet to text by RFC 4180'.
--- What is returned and what is written, each one equation: a refusal of reading with its block and position, 21 for an output too short, or 0 and the register's text at the front of the output.
+-- What is returned and what is written, each one equation: a refusal of reading with its block and position, 20 for a sheet of two tracks, 21 for an output too short, or 0 and the register's text at the front of the output.
 -- Assumes nothing.
 use Prim.Native.Nat.{ℕ}
 use mathlib.Core.Bool.{not}
@@ -8,8 +8,8 @@ use mathlib.Core.List.{List, _++_}
 use lib.Dec.{eqb, ltb}
 use lib.ListN.{length, drop}
 use Rattle.relay.specs.Choice.{pick}
-use Rattle.sheet.specs.Layout.{roomShort}
-use Rattle.sheet.specs.Reading.{accepted, verdict, verdictOf, decode}
+use Rattle.sheet.specs.Layout.{twoTracks, contentsWrong, roomShort}
+use Rattle.sheet.specs.Reading.{formIn, verdict, verdictUpTo, decode}
 use Rattle.sheet.specs.declared.Verdict.{Verdict}
 use Rattle.register.specs.Register.{exported}
 use Rattle.exporting.specs.declared.Exported.{Exported}
@@ -26,11 +26,19 @@ done n = record { number = 0; block = 0; position = 0; bytes = n }
 abbrev pub textFor : List ℕ → List ℕ
 textFor s = exported (decode s)
 
+-- what reading says of a sheet of either form
+abbrev pub readingOf : List ℕ → Verdict
+readingOf s = verdictUpTo twoTracks s
+
 -- what is returned, with an output of m bytes
 unfoldable pub exportOf : List ℕ → ℕ → Exported
 exportOf s m =
-    pick (not (accepted s)) (refused (verdictOf s))
-    (pick (ltb m (length (textFor s))) (refused (verdict roomShort 0)) (done (length (textFor s))))
+    -- 'export as for reading'
+    pick (not (eqb (readingOf s .number) 0)) (refused (readingOf s))
+    -- 02, item 7, of a two-track sheet: 'Item 3's export refuses it (20, block 0)'
+    (pick (eqb (formIn s) twoTracks) (refused (verdict contentsWrong 0))
+    -- 'then 21'
+    (pick (ltb m (length (textFor s))) (refused (verdict roomShort 0)) (done (length (textFor s)))))
 
 -- the output afterwards: the text and then what was there; on a refusal as it was
 unfoldable pub exportInto : List ℕ → List ℕ → List ℕ
