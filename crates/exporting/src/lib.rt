@@ -185,7 +185,7 @@ fn refuse(number: u32, block: u32, position: u32) -> Exported
 pub fn export(s: &[u8], out: &mut [u8]) -> Exported
     ensures { λ r. ⌜ Exports (now (s .entry)) r (now (out .entry)) (now (out .exit)) ⌝ }
 {
-    let v = sheet::test_tracks(s);
+    let v = lent_sheet::test_tracks(s);
     if v.number != 0 {
         return refuse(v.number, v.block, v.position);
     }
