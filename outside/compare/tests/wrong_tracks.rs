@@ -9,6 +9,7 @@ use compare::desk::{Desk, InProcess, Model};
 use compare::tracks::asked::OF_ALL;
 use compare::tracks::cases::{compare_tracks, sorts, Wanted};
 use compare::tracks::met::MET;
+use compare::tracks::of_one::{self, GIVEN};
 use compare::tracks::request::{Rows, Tables};
 use compare::tracks::tally::CALLS;
 use compare::tracks::two::Two;
@@ -58,6 +59,9 @@ fn what_does_not_come_up_is_missed() {
     assert_eq!(lines("altered pairs of lines, "), USED.len());
     assert_eq!(lines("starts of two tracks, "), STARTED.len());
     assert_eq!(lines("event "), 24);
+    assert_eq!(lines("no event of two tracks at"), 31);
+    let as_one: usize = of_one::CALLS.iter().map(|(_, name)| lines(name)).sum();
+    assert_eq!(as_one, 4 * GIVEN.len());
     assert_eq!(lines("no call on a sheet"), 8);
     let sheets: usize = CALLS.iter().map(|(_, own)| own.len()).sum();
     assert_eq!(lines("sheets "), 3 * OF_ALL.len() + sheets);

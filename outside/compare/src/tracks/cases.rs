@@ -4,7 +4,7 @@ use crate::cases::Sort;
 use crate::desk::Library;
 use crate::run::{compare_shares, Difference};
 use crate::tracks::tally::TrackTally;
-use crate::tracks::{calls, histories, questions, rows, starts, writes};
+use crate::tracks::{calls, full, histories, of_one, questions, rows, starts, writes};
 
 /// How many of each are wanted.
 #[derive(Clone, Copy, Debug)]
@@ -29,6 +29,8 @@ pub fn sorts() -> Vec<Sort> {
         Sort::each("track-writing", writes::WRITES),
         Sort::numbered("track-fields", calls::field_names(), calls::bad_field),
         Sort::numbered("track-questions", questions::names(), questions::question),
+        Sort::numbered("track-of-one", of_one::names(), of_one::given),
+        Sort::each("track-full", full::FULL),
     ]
 }
 
@@ -52,6 +54,8 @@ pub fn shares(wanted: Wanted) -> Vec<u64> {
         sheets / 4,
         sheets / 2,
         questions,
+        sheets / 4,
+        sheets.div_ceil(1000),
     ]
 }
 
