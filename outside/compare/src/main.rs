@@ -9,7 +9,7 @@ use std::time::Instant;
 
 use compare::cases::{sorts, Wanted};
 use compare::child::{ChildLibrary, TIME_LIMIT};
-use compare::program::{compare_program, only_program};
+use compare::program::{compare_program, only_program, Sheets};
 use compare::run::{compare, named_case, only, Difference};
 use compare::tracks::cases as tracks;
 
@@ -125,13 +125,27 @@ fn options(mut arguments: impl Iterator<Item = String>) -> Result<Options, Strin
 
 fn run_desk(options: &Options) -> Result<(), String> {
     let Options { command, seed, .. } = options;
-    let done = match &options.only {
-        Some(name) => only_program(command, *seed, name),
-        None => compare_program(command, *seed, options.sheets.unwrap_or(300)),
+    let differs = |text| format!("DIFFERENCE in {text}");
+    if let Some(name) = &options.only {
+        only_program(command, *seed, name).map_err(differs)?;
+        println!("the program agrees with the model: {name}");
+        return Ok(());
+    }
+    let sheets = Sheets {
+        of_one: options.sheets.unwrap_or(300),
+        of_either: options.track_sheets.unwrap_or(1_000),
     };
-    let done = done.map_err(|text| format!("DIFFERENCE in {text}"))?;
-    println!("the program agrees with the model: {done}");
+    let done = compare_program(command, *seed, sheets).map_err(differs)?;
+    all_was_seen(&done.missing)?;
+    println!("the program agrees with the model: {}", done.text);
     Ok(())
+}
+
+fn all_was_seen(missing: &[String]) -> Result<(), String> {
+    match missing {
+        [] => Ok(()),
+        _ => Err(format!("NOT ALL WAS SEEN:\n  {}", missing.join("\n  "))),
+    }
 }
 
 fn told(seed: u64, difference: Difference) -> String {
@@ -169,11 +183,9 @@ fn run_library(options: &Options) -> Result<(), String> {
     library.finish()?;
     print!("of two tracks: {}", of_two.text(&two));
     let missing = [tally.missing(&one), of_two.missing(&two)].concat();
-    if missing.is_empty() {
-        println!("the library agrees with the model");
-        return Ok(());
-    }
-    Err(format!("NOT ALL WAS SEEN:\n  {}", missing.join("\n  ")))
+    all_was_seen(&missing)?;
+    println!("the library agrees with the model");
+    Ok(())
 }
 
 fn main() -> ExitCode {
