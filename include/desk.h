@@ -13,8 +13,8 @@
  * Stack: desk_valid, desk_start and desk_event, and the same three on two tracks, need at most 2,048 bytes, and
  * desk_check, desk_test, desk_read and desk_write, and the last three for both forms of a sheet, less than 512,
  * whatever they are given, the return address counted and the caller's own use not; they call nothing outside the three
- * archives. (Read off the machine code: docs/FIGURES.md has each figure.) The other calls hold a whole sheet's events:
- * they are for the desk's computer. Those of one track were seen to need up to 73,872.
+ * archives. (Read off the machine code: docs/FIGURES.md has each figure.) The other calls hold a whole sheet's events,
+ * and were seen to need up to 114,912 (desk_work_tracks): they are for the desk's computer.
  *
  * Link liblent.a (desk_valid, desk_start, desk_event), liblent_rows.a (desk_valid_tracks, desk_start_tracks,
  * desk_event_tracks) and libpanel.a (the others), each alone or with the others; they are for x86-64 Linux.
