@@ -169,71 +169,95 @@ static void write_sheet(void)
     give_bytes(out, room);
 }
 
-static void few_records(size_t n)
+/* What is lent to a call that makes bytes of bytes: a sheet or a text, and a room. */
+struct made {
+    uint8_t *from, *out;
+    size_t n, room;
+};
+
+static struct made lend_made(void)
 {
-    if (n > DESK_POSTS)
+    struct made made;
+    uint32_t fill;
+
+    made.n = count(MOST_BYTES);
+    made.room = count(MOST_BYTES);
+    fill = word();
+    made.from = lend_sheet(made.n);
+    made.out = lend_out(made.room, fill);
+    return made;
+}
+
+static void give_made(void)
+{
+    same(&sheet_area);
+    canary(&out_area);
+    give_bytes(out_area.at, out_area.bytes);
+}
+
+static void few_records(const struct desk_row *row)
+{
+    if (row->n > DESK_POSTS)
         fail("a working returned more records than there are");
+}
+
+static void give_records(const struct desk_row *row)
+{
+    give(row->posts, row->n * sizeof row->posts[0]);
 }
 
 static void work(void)
 {
-    size_t n = count(MOST_BYTES), room = count(MOST_BYTES);
-    uint32_t fill = word();
-    uint8_t *sheet = lend_sheet(n), *out = lend_out(room, fill);
-    struct desk_worked worked = desk_work(sheet, n, out, room);
+    struct made made = lend_made();
+    struct desk_worked worked = desk_work(made.from, made.n, made.out, made.room);
 
-    same(&sheet_area);
-    canary(&out_area);
-    few_records(worked.row.n);
+    few_records(&worked.row);
     give_word(worked.number);
     give_word(worked.block);
     give_word(worked.position);
     give_word((uint32_t)worked.row.n);
     give_head(worked.head);
-    give(worked.row.posts, worked.row.n * sizeof worked.row.posts[0]);
-    give_bytes(out, room);
+    give_records(&worked.row);
+    give_made();
 }
 
-static void why(void)
+static void ask(struct desk_since (*call)(const uint8_t *, size_t, uint32_t))
 {
     size_t n = count(MOST_BYTES);
     uint32_t position = word();
     uint8_t *sheet = lend_sheet(n);
-    struct desk_since since = desk_why(sheet, n, position);
+    struct desk_since since = call(sheet, n, position);
 
     same(&sheet_area);
     give(&since, sizeof since);
 }
 
+static void why(void)
+{
+    ask(desk_why);
+}
+
 static void export_sheet(void)
 {
-    size_t n = count(MOST_BYTES), room = count(MOST_BYTES);
-    uint32_t fill = word();
-    uint8_t *sheet = lend_sheet(n), *out = lend_out(room, fill);
-    struct desk_exported exported = desk_export(sheet, n, out, room);
+    struct made made = lend_made();
+    struct desk_exported exported = desk_export(made.from, made.n, made.out, made.room);
 
-    same(&sheet_area);
-    canary(&out_area);
     give_word(exported.number);
     give_word(exported.block);
     give_word(exported.position);
     give_long(exported.bytes);
-    give_bytes(out, room);
+    give_made();
 }
 
 static void import_text(void)
 {
-    size_t n = count(MOST_BYTES), room = count(MOST_BYTES);
-    uint32_t fill = word();
-    uint8_t *text = lend_sheet(n), *out = lend_out(room, fill);
-    struct desk_imported imported = desk_import(text, n, out, room);
+    struct made made = lend_made();
+    struct desk_imported imported = desk_import(made.from, made.n, made.out, made.room);
 
-    same(&sheet_area);
-    canary(&out_area);
     give_word(imported.number);
     give_long(imported.record);
     give_long(imported.bytes);
-    give_bytes(out, room);
+    give_made();
 }
 
 /* The same call so many bytes before the end of memory: no word of the block lies at a word's place. */
@@ -393,33 +417,26 @@ static void write_tracks(void)
 
 static void work_tracks(void)
 {
-    size_t n = count(MOST_BYTES), room = count(MOST_BYTES);
-    uint32_t fill = word();
-    uint8_t *sheet = lend_sheet(n), *out = lend_out(room, fill);
-    struct desk_worked_tracks worked = desk_work_tracks(sheet, n, out, room);
+    struct made made = lend_made();
+    struct desk_worked_tracks worked = desk_work_tracks(made.from, made.n, made.out, made.room);
 
-    same(&sheet_area);
-    canary(&out_area);
-    few_records(worked.first.n);
-    few_records(worked.second.n);
-    give(&worked, offsetof(struct desk_worked_tracks, first));
+    few_records(&worked.first);
+    few_records(&worked.second);
+    give_word(worked.number);
+    give_word(worked.block);
+    give_word(worked.position);
+    give_word(worked.tracks);
     give_word((uint32_t)worked.first.n);
     give_word((uint32_t)worked.second.n);
     give_head(worked.head);
-    give(worked.first.posts, worked.first.n * sizeof worked.first.posts[0]);
-    give(worked.second.posts, worked.second.n * sizeof worked.second.posts[0]);
-    give_bytes(out, room);
+    give_records(&worked.first);
+    give_records(&worked.second);
+    give_made();
 }
 
 static void why_tracks(void)
 {
-    size_t n = count(MOST_BYTES);
-    uint32_t position = word();
-    uint8_t *sheet = lend_sheet(n);
-    struct desk_since since = desk_why_tracks(sheet, n, position);
-
-    same(&sheet_area);
-    give(&since, sizeof since);
+    ask(desk_why_tracks);
 }
 
 int main(int words, char **word_at)

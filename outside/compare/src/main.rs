@@ -7,7 +7,7 @@
 use std::process::ExitCode;
 use std::time::Instant;
 
-use compare::cases::{sorts, Wanted};
+use compare::cases::{sorts, Wanted, WHOLE};
 use compare::child::{ChildLibrary, TIME_LIMIT};
 use compare::program::{compare_program, only_program, Sheets};
 use compare::run::{compare, named_case, only, Difference};
@@ -36,20 +36,8 @@ impl Default for Options {
         Options {
             desk: false,
             seed: FIXED_SEED,
-            wanted: Wanted {
-                events: 2_000_000,
-                rows: 500_000,
-                sheets: 200_000,
-                questions: 20_000,
-                texts: 200_000,
-                blocks: 50_000,
-            },
-            tracks: tracks::Wanted {
-                events: 1_000_000,
-                rows: 200_000,
-                sheets: 60_000,
-                questions: 12_000,
-            },
+            wanted: WHOLE,
+            tracks: tracks::WHOLE,
             sheets: None,
             track_sheets: None,
             only: None,

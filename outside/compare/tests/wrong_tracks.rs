@@ -7,7 +7,7 @@ use common::first;
 use common::tracks::{must_differ, small_run};
 use compare::desk::{Desk, InProcess, Model};
 use compare::tracks::asked::OF_ALL;
-use compare::tracks::cases::{compare_tracks, sorts, Wanted};
+use compare::tracks::cases::{compare_tracks, sorts, Wanted, WHOLE};
 use compare::tracks::met::MET;
 use compare::tracks::of_one::{self, GIVEN};
 use compare::tracks::request::{Rows, Tables};
@@ -30,14 +30,8 @@ fn the_model_passes_and_all_is_seen() {
 #[test]
 #[ignore = "long; it measures what the comparison alone costs"]
 fn the_model_passes_a_whole_run() {
-    let wanted = Wanted {
-        events: 1_500_000,
-        rows: 300_000,
-        sheets: 100_000,
-        questions: 20_000,
-    };
     let began = std::time::Instant::now();
-    let run = compare_tracks(&sorts(), 317_944, wanted, &mut InProcess(Model));
+    let run = compare_tracks(&sorts(), 317_944, WHOLE, &mut InProcess(Model));
     let tally = run.unwrap_or_else(|d| panic!("{}: {}", d.name, d.text));
     println!("{}{:?}", tally.text(&sorts()), began.elapsed());
     assert_eq!(tally.missing(&sorts()), Vec::<String>::new());

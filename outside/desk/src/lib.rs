@@ -139,7 +139,6 @@ mod c {
     use super::*;
 
     #[cfg_attr(target_arch = "x86_64", link(name = "lent", kind = "static"))]
-    #[cfg_attr(target_arch = "x86_64", link(name = "panel", kind = "static"))]
     extern "C" {
         pub fn desk_valid(row: *const Post, n: usize, head: Head) -> bool;
         pub fn desk_start(
@@ -157,6 +156,10 @@ mod c {
             place: u32,
             stamp: u32,
         ) -> Told;
+    }
+
+    #[cfg_attr(target_arch = "x86_64", link(name = "panel", kind = "static"))]
+    extern "C" {
         pub fn desk_check(block: *const u8, n: usize, number: u32) -> bool;
         pub fn desk_test(sheet: *const u8, n: usize) -> Verdict;
         pub fn desk_read(

@@ -36,7 +36,6 @@ mod c {
     use super::*;
 
     #[cfg_attr(target_arch = "x86_64", link(name = "lent_rows", kind = "static"))]
-    #[cfg_attr(target_arch = "x86_64", link(name = "panel", kind = "static"))]
     extern "C" {
         pub fn desk_valid_tracks(
             first: *const Post,
@@ -70,6 +69,10 @@ mod c {
             place: u32,
             stamp: u32,
         ) -> Told;
+    }
+
+    #[cfg_attr(target_arch = "x86_64", link(name = "panel", kind = "static"))]
+    extern "C" {
         pub fn desk_test_tracks(sheet: *const u8, n: usize) -> Verdict;
         pub fn desk_read_tracks(
             sheet: *const u8,

@@ -1,9 +1,12 @@
 //! Each call of two tracks through the wrapper: that pointers, counts and returned structs meet the C calling
 //! convention, and that what is refused is left as it was.
+mod common;
+
+use common::{since, verdict};
 use desk::tracks::{
     event, read, start, test, valid, why, work, write, Found, Worked, POLARISED, VIBRATED,
 };
-use desk::{Head, Post, Since, Told, Verdict};
+use desk::{Head, Post, Told, Verdict};
 use model::both::{answered, table, unanswered, KINDS};
 use model::{both, paper, renew_check};
 
@@ -167,14 +170,6 @@ fn a_sheet_of_one_track() {
     assert_eq!(room.2, [0; 15]);
 }
 
-fn since(number: u32, block: u32, position: u32) -> Since {
-    Since {
-        number,
-        block,
-        position,
-    }
-}
-
 #[test]
 fn since_when_on_each_track() {
     let [_, sheet] = sheets(POLARISED, both::POLARISED);
@@ -228,11 +223,6 @@ fn refused_so(sheet: &[u8], right: Verdict) {
 #[test]
 fn sheets_refused() {
     let [good, _] = sheets(VIBRATED, both::VIBRATED);
-    let verdict = |number, block, position| Verdict {
-        number,
-        block,
-        position,
-    };
     // Track 1's last kind, track 2's first, the circuit, and the word behind it.
     for word in [5, 6, 9, 10] {
         let mut sheet = good;

@@ -15,6 +15,14 @@ pub struct Wanted {
     pub questions: u64,
 }
 
+/// What the gate runs.
+pub const WHOLE: Wanted = Wanted {
+    events: 1_000_000,
+    rows: 200_000,
+    sheets: 60_000,
+    questions: 12_000,
+};
+
 /// All sorts, in the order in which they take turns.
 pub fn sorts() -> Vec<Sort> {
     vec![

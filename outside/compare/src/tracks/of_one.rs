@@ -44,18 +44,11 @@ pub struct Given {
 
 /// The call of a request by its place in the list, and what it was given.
 pub fn of(request: &Request, reply: &[u32]) -> Option<(usize, Given)> {
-    let (call, sheet) = match request {
-        Request::Read { sheet, .. } => (0, sheet),
-        Request::Work { sheet, .. } => (1, sheet),
-        Request::Why { sheet, .. } => (2, sheet),
-        Request::Export { sheet, .. } => (3, sheet),
-        _ => return None,
-    };
-    let (number, block) = (reply[0], reply[1]);
+    let (call, sheet) = request.sheet_read()?;
     let given = Given {
         sheet: sheet.clone(),
-        number,
-        block,
+        number: reply[0],
+        block: reply[1],
     };
     Some((call, given))
 }
