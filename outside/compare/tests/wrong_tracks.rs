@@ -497,6 +497,12 @@ const VALIDS: &[Valids] = &[
             rows[0][s].is_up(W314) && rows[1][facing(&rows[1], s)].is_up(W314)
         })
     }),
+    ("33 posts", |two| {
+        two.is_valid() || two.rows.iter().all(|row| row.len() == 33)
+    }),
+    ("no posts", |two| {
+        two.is_valid() || two.rows.iter().all(Vec::is_empty)
+    }),
     ("1,000,001 taken", |two| {
         let mut two = two.clone();
         two.head.taken -= u32::from(two.head.taken == 1_000_001);
