@@ -4,14 +4,18 @@
  * WHAT is one of
  *     ledger, tested, simple   the sheet's events, one by one: desk_event; the Rust model's event with all its tests;
  *                              the same on a line that is not tested
+ *     ledger_tracks, tested_tracks, simple_tracks   the same three of a sheet of two tracks: desk_event_tracks, and the
+ *                              Rust model's event on two lines, tested and not
  *     block, sum               desk_check of each block; a plain Rust sum of each block
  *     check, copy              desk_test; memcpy of the sheet
  *     work, listing            desk_work; the Rust model's listing
+ *     work_tracks              desk_work_tracks, of a sheet of either form
  *     why, plain               desk_why and the Rust model's answer, of the last event that is refused 8, 9 or 13
  *     export, plain_export     desk_export, and plain Rust that does the same
  *     import, plain_import     desk_import of the sheet's register, and plain Rust that does the same
  * Prints how long the rounds took, their number, and a number made of the results of one round: it is the same for
- * ledger, tested and simple, for block and sum, for why and plain, and for each of the last two pairs.
+ * ledger, tested and simple, for the same three of two tracks, for block and sum, for why and plain, and for each of
+ * the last two pairs.
  */
 #include <stdio.h>
 #include <stdlib.h>
@@ -22,6 +26,9 @@
 
 typedef struct desk_told event_call(struct desk_post *, size_t, struct desk_head, uint32_t, uint32_t, uint32_t);
 event_call tested_event, simple_event;
+typedef struct desk_told event_tracks_call(struct desk_post *, size_t, struct desk_post *, size_t, uint32_t,
+                                           struct desk_head, uint32_t, uint32_t, uint32_t, uint32_t);
+event_tracks_call tested_event_tracks, simple_event_tracks;
 uint32_t plain_sum(const uint8_t *block);
 size_t plain_listing(const uint8_t *sheet, size_t n, uint8_t *page, size_t room);
 uint32_t plain_why(const uint8_t *sheet, size_t n, uint32_t position);
@@ -30,9 +37,10 @@ size_t plain_import(const uint8_t *text, size_t n, uint8_t *out, size_t room);
 
 static uint8_t input[1 << 16];
 static size_t input_bytes;
-static uint32_t kinds[DESK_POSTS];
+static uint32_t table[2 * DESK_POSTS + 1];
 static desk_entry entries[DESK_EVENTS];
-static struct desk_found found;
+static uint32_t tracks[DESK_EVENTS];
+static struct desk_found_tracks found;
 static uint8_t page[1 << 17];
 static uint8_t done[DESK_SHEET];
 static uint32_t last_refused;
@@ -45,20 +53,42 @@ static _Noreturn void fail(const char *why)
     exit(1);
 }
 
+/* The records of a line, folded into a number. */
+static uint32_t fold_row(uint32_t fold, const struct desk_post *row)
+{
+    for (uint32_t i = 0; i < found.posts; i++)
+        fold = fold * 31 + (row[i].word ^ row[i].a ^ row[i].q << 8);
+    return fold;
+}
+
 /* One round of events from the fresh line: answers and records, folded into one number. */
 static uint32_t play(event_call *event)
 {
     static struct desk_post row[DESK_POSTS];
-    struct desk_told told = desk_start(row, found.posts, kinds, found.posts, found.stamp);
+    struct desk_told told = desk_start(row, found.posts, table, found.posts, found.stamp);
     uint32_t fold = told.answer;
 
     for (uint32_t i = 0; i < found.events; i++) {
         told = event(row, found.posts, told.head, entries[i][0], entries[i][1], entries[i][3]);
         fold = fold * 31 + told.answer;
     }
-    for (uint32_t i = 0; i < found.posts; i++)
-        fold = fold * 31 + (row[i].word ^ row[i].a ^ row[i].q << 8);
-    return fold;
+    return fold_row(fold, row);
+}
+
+/* The same of two tracks. */
+static uint32_t play_tracks(event_tracks_call *event)
+{
+    static struct desk_post first[DESK_POSTS], second[DESK_POSTS];
+    size_t n = found.posts;
+    uint32_t circuit = table[2 * n];
+    struct desk_told told = desk_start_tracks(first, n, second, n, table, n, table + n, n, circuit, found.stamp);
+    uint32_t fold = told.answer;
+
+    for (uint32_t i = 0; i < found.events; i++) {
+        told = event(first, n, second, n, circuit, told.head, tracks[i], entries[i][0], entries[i][1], entries[i][3]);
+        fold = fold * 31 + told.answer;
+    }
+    return fold_row(fold_row(fold, first), second);
 }
 
 static uint32_t blocks(void)
@@ -101,7 +131,7 @@ static void work_once(void)
     static desk_entry answered[DESK_EVENTS];
 
     desk_work(input, input_bytes, done, sizeof done);
-    desk_read(done, input_bytes, kinds, DESK_POSTS, answered, DESK_EVENTS);
+    desk_read(done, input_bytes, table, DESK_POSTS, answered, DESK_EVENTS);
     for (uint32_t i = 0; i < found.events; i++)
         if (answered[i][2] == 8 || answered[i][2] == 9 || answered[i][2] == 13)
             last_refused = i + 1;
@@ -126,8 +156,27 @@ static uint32_t round_of_register(const char *what)
     fail("no such figure");
 }
 
+static uint32_t round_of_tracks(const char *what)
+{
+    if (strcmp(what, "work_tracks") == 0)
+        return desk_work_tracks(input, input_bytes, page, sizeof page).number;
+    if (found.tracks != 2)
+        fail("the input is no sheet of two tracks");
+    if (strcmp(what, "ledger_tracks") == 0)
+        return play_tracks(desk_event_tracks);
+    if (strcmp(what, "tested_tracks") == 0)
+        return play_tracks(tested_event_tracks);
+    if (strcmp(what, "simple_tracks") == 0)
+        return play_tracks(simple_event_tracks);
+    fail("no such figure");
+}
+
 static uint32_t round_of(const char *what)
 {
+    if (strstr(what, "_tracks") != NULL)
+        return round_of_tracks(what);
+    if (found.tracks != 1)
+        fail("the input is no sheet of one track");
     if (strcmp(what, "ledger") == 0)
         return play(desk_event);
     if (strcmp(what, "tested") == 0)
@@ -163,7 +212,7 @@ int main(int count, char **args)
         fail("usage: figures WHAT ROUNDS");
     rounds = atol(args[2]);
     input_bytes = fread(input, 1, sizeof input, stdin);
-    found = desk_read(input, input_bytes, kinds, DESK_POSTS, entries, DESK_EVENTS);
+    found = desk_read_tracks(input, input_bytes, table, 2 * DESK_POSTS + 1, entries, DESK_EVENTS, tracks, DESK_EVENTS);
     if (found.number != 0) {
         fprintf(stderr, "figures: %u, block %u, position %u\n", found.number, found.block, found.position);
         fail("the input is no sheet");

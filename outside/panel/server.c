@@ -16,234 +16,53 @@
  *     9 EXPORT bytes room fill, bytes                         -> number block position bytes, room bytes
  *    10 IMPORT bytes room fill, bytes                         -> number record bytes, room bytes
  *    11 CHECK  bytes number, bytes                            -> 0 or 1, the bytes
+ * Of two tracks, those of track 1 and then those of track 2 where the one is said:
+ *    12 START  n m k j circuit stamp, n and m records, k and j kinds      -> answer taken last, n and m records
+ *    13 VALID  n m circuit taken last, n and m records                    -> 0 or 1, n and m records
+ *    14 EVENT  n m circuit taken last track number place stamp, n and m records
+ *              -> answer taken last, n and m records
+ *    15 RUN    n m circuit stamp k, n and m kinds, k times (track number place stamp)
+ *              -> START's reply, and EVENT's for each of the k, on rows that stay lent
+ *    16 READ   bytes k m t fill, bytes -> number block position tracks posts stamp events of desk_read_tracks,
+ *              number block position of desk_test_tracks, k words, m entries, t words
+ *    17 WRITE  form k stamp m t room fill, k words, m entries, t words    -> number, room bytes
+ *    18 WORK   bytes room fill, bytes  -> number block position tracks n m taken last, n and m records, room bytes
+ *    19 WHY    bytes position, bytes                                      -> number block position
  * `fill` is what a lent room holds before the call. The record and the bytes that 9 and 10 return are of 64 bits each:
  * two words, the lower one first.
  *
- * Everything lent ends where memory ends: the page behind it may not be touched. The bytes before it are a canary.
- * What is lent to be read only is compared with what it was.
- * With the word --guards it answers nothing, and tests that such a touch is noticed.
+ * What is lent stands beside guard pages and canaries (lending.h). With the word --guards it answers nothing, and tests
+ * that a touch of those is noticed.
  */
-#include <stdio.h>
-#include <stdlib.h>
-#include <string.h>
-#include <sys/mman.h>
-#include <sys/wait.h>
-#include <unistd.h>
-
 #include "desk.h"
+#include "lending.h"
 
-enum {
-    MOST_POSTS = 64, MOST_ENTRIES = 4096, MOST_BYTES = 1 << 21,
-    CANARY = 64, CANARY_BYTE = 0xA5,
-    GUARD = 65536 /* no machine's pages are larger */
-};
+/* ---- records and heads */
 
-static _Noreturn void fail(const char *why)
+static struct desk_post *lend_row(struct area *a, size_t n)
 {
-    fprintf(stderr, "server: %s\n", why);
-    exit(3);
-}
-
-/* ---- the two streams */
-
-static uint8_t input[1 << 20], output[1 << 20];
-static size_t input_at, input_end, output_end;
-
-static void flush(void)
-{
-    size_t done = 0;
-
-    while (done < output_end) {
-        ssize_t n = write(STDOUT_FILENO, output + done, output_end - done);
-
-        if (n <= 0)
-            fail("the output is closed");
-        done += (size_t)n;
-    }
-    output_end = 0;
-}
-
-/* Whether there is more input. Whoever waits for replies gets them before the server waits for requests. */
-static bool more(void)
-{
-    if (input_at == input_end) {
-        ssize_t n;
-
-        flush();
-        n = read(STDIN_FILENO, input, sizeof input);
-        if (n < 0)
-            fail("the input cannot be read");
-        input_at = 0;
-        input_end = (size_t)n;
-    }
-    return input_at < input_end;
-}
-
-static void take(void *to, size_t bytes)
-{
-    uint8_t *at = to;
-
-    while (bytes > 0) {
-        size_t n;
-
-        if (!more())
-            fail("a request is cut short");
-        n = input_end - input_at < bytes ? input_end - input_at : bytes;
-        memcpy(at, input + input_at, n);
-        input_at += n;
-        at += n;
-        bytes -= n;
-    }
-}
-
-static uint32_t word(void)
-{
-    uint32_t w;
-
-    take(&w, sizeof w);
-    return w;
-}
-
-static size_t count(size_t most)
-{
-    uint32_t w = word();
-
-    if (w > most)
-        fail("a request is larger than the server's room");
-    return w;
-}
-
-static void give(const void *from, size_t bytes)
-{
-    const uint8_t *at = from;
-
-    while (bytes > 0) {
-        size_t room = sizeof output - output_end, n = room < bytes ? room : bytes;
-
-        memcpy(output + output_end, at, n);
-        output_end += n;
-        at += n;
-        bytes -= n;
-        if (output_end == sizeof output)
-            flush();
-    }
-}
-
-static void give_word(uint32_t w)
-{
-    give(&w, sizeof w);
-}
-
-static void give_long(uint64_t l)
-{
-    give(&l, sizeof l);
-}
-
-static size_t padding(size_t bytes)
-{
-    return (4 - bytes % 4) % 4;
-}
-
-static void take_bytes(uint8_t *to, size_t bytes)
-{
-    uint32_t pad;
-
-    take(to, bytes);
-    take(&pad, padding(bytes));
-}
-
-static void give_bytes(const uint8_t *from, size_t bytes)
-{
-    static const uint32_t zeros;
-
-    give(from, bytes);
-    give(&zeros, padding(bytes));
-}
-
-/* ---- what is lent */
-
-struct area {
-    uint8_t *end;          /* where memory ends */
-    uint8_t *at;           /* what is lent now */
-    size_t bytes;
-    uint8_t before[MOST_BYTES]; /* what it held, where it is lent to be read only */
-};
-
-static struct area row_area, kinds_area, entries_area, sheet_area, out_area;
-
-/* The data ends at a boundary of GUARD bytes, and GUARD bytes that may not be touched follow. */
-static void make(struct area *a)
-{
-    size_t whole = 2 * MOST_BYTES + 3 * (size_t)GUARD;
-    uint8_t *base = mmap(NULL, whole, PROT_READ | PROT_WRITE, MAP_PRIVATE | MAP_ANONYMOUS, -1, 0);
-
-    if (base == MAP_FAILED)
-        fail("no memory");
-    a->end = base + 2 * MOST_BYTES + GUARD;
-    a->end -= (uintptr_t)a->end % GUARD;
-    if (mprotect(a->end, GUARD, PROT_NONE) != 0)
-        fail("no guard page");
-}
-
-static void *lend(struct area *a, size_t bytes)
-{
-    a->at = a->end - bytes;
-    a->bytes = bytes;
-    memset(a->at - CANARY, CANARY_BYTE, CANARY);
-    return a->at;
-}
-
-static void keep(struct area *a)
-{
-    memcpy(a->before, a->at, a->bytes);
-}
-
-static void canary(const struct area *a)
-{
-    for (const uint8_t *p = a->at - CANARY; p < a->at; p++)
-        if (*p != CANARY_BYTE)
-            fail("a call wrote before what was lent");
-}
-
-static void same(const struct area *a)
-{
-    canary(a);
-    if (memcmp(a->before, a->at, a->bytes) != 0)
-        fail("a call wrote to what was lent to be read");
-}
-
-static struct desk_post *lend_row(size_t n)
-{
-    struct desk_post *row = lend(&row_area, n * sizeof *row);
+    struct desk_post *row = lend(a, n * sizeof *row);
 
     take(row, n * sizeof *row);
     return row;
 }
 
-static uint32_t *lend_kinds(size_t k)
+/* So many records that nobody has written yet. */
+static struct desk_post *lend_unwritten(struct area *a, size_t n)
 {
-    uint32_t *kinds = lend(&kinds_area, k * sizeof *kinds);
-
-    take(kinds, k * sizeof *kinds);
-    keep(&kinds_area);
-    return kinds;
+    return memset(lend(a, n * sizeof(struct desk_post)), 0xEE, n * sizeof(struct desk_post));
 }
 
-static uint8_t *lend_sheet(size_t n)
+static desk_entry *lend_entries(size_t m, uint32_t fill)
 {
-    uint8_t *sheet = lend(&sheet_area, n);
-
-    take_bytes(sheet, n);
-    keep(&sheet_area);
-    return sheet;
+    return (desk_entry *)lend_filled(&entries_area, 4 * m, fill);
 }
 
-static uint8_t *lend_out(size_t room, uint32_t fill)
+/* All of what was lent to be written, a row or a room. */
+static void give_lent(const struct area *a)
 {
-    uint8_t *out = lend(&out_area, room);
-
-    memset(out, (int)fill, room);
-    return out;
+    canary(a);
+    give(a->at, a->bytes);
 }
 
 static struct desk_head take_head(void)
@@ -261,12 +80,12 @@ static void give_head(struct desk_head head)
     give_word(head.last);
 }
 
-static void give_told(struct desk_told told, const struct desk_post *row, size_t n)
+/* What one track is told, and the row. */
+static void give_told(struct desk_told told)
 {
-    canary(&row_area);
     give_word(told.answer);
     give_head(told.head);
-    give(row, n * sizeof *row);
+    give_lent(&row_area);
 }
 
 /* ---- the calls */
@@ -275,10 +94,10 @@ static void start(void)
 {
     size_t n = count(MOST_POSTS), k = count(MOST_POSTS);
     uint32_t stamp = word();
-    struct desk_post *row = lend_row(n);
-    uint32_t *kinds = lend_kinds(k);
+    struct desk_post *row = lend_row(&row_area, n);
+    uint32_t *kinds = lend_words(&kinds_area, k);
 
-    give_told(desk_start(row, n, kinds, k, stamp), row, n);
+    give_told(desk_start(row, n, kinds, k, stamp));
     same(&kinds_area);
 }
 
@@ -286,11 +105,10 @@ static void valid(void)
 {
     size_t n = count(MOST_POSTS);
     struct desk_head head = take_head();
-    struct desk_post *row = lend_row(n);
+    struct desk_post *row = lend_row(&row_area, n);
 
     give_word(desk_valid(row, n, head));
-    canary(&row_area);
-    give(row, n * sizeof *row);
+    give_lent(&row_area);
 }
 
 static void event(void)
@@ -298,19 +116,19 @@ static void event(void)
     size_t n = count(MOST_POSTS);
     struct desk_head head = take_head();
     uint32_t number = word(), place = word(), stamp = word();
-    struct desk_post *row = lend_row(n);
+    struct desk_post *row = lend_row(&row_area, n);
 
-    give_told(desk_event(row, n, head, number, place, stamp), row, n);
+    give_told(desk_event(row, n, head, number, place, stamp));
 }
 
-/* Each block by itself has the check that desk_test found, up to the block that it names. */
+/* Each block by itself has the check that a test of the sheet found, up to the block that it names. */
 static void agree(const uint8_t *sheet, size_t n, struct desk_verdict verdict)
 {
     for (size_t b = 0; verdict.number != 18 && b < n / DESK_BLOCK; b++) {
         bool named = verdict.number != 0 && b == verdict.block;
 
         if (desk_check(sheet + b * DESK_BLOCK, DESK_BLOCK, (uint32_t)b) == (named && verdict.number == 19))
-            fail("desk_test and desk_check disagree");
+            fail("the test of a sheet and desk_check disagree");
         if (named)
             return;
     }
@@ -321,25 +139,17 @@ static void read_sheet(void)
     size_t n = count(MOST_BYTES), k = count(MOST_POSTS), m = count(MOST_ENTRIES);
     uint32_t fill = word();
     uint8_t *sheet = lend_sheet(n);
-    uint32_t *kinds = lend(&kinds_area, k * sizeof *kinds);
-    desk_entry *entries = lend(&entries_area, m * sizeof *entries);
+    uint32_t *kinds = lend_filled(&kinds_area, k, fill);
+    desk_entry *entries = lend_entries(m, fill);
     struct desk_verdict verdict = desk_test(sheet, n);
-    struct desk_found found;
+    struct desk_found found = desk_read(sheet, n, kinds, k, entries, m);
 
-    for (size_t i = 0; i < k; i++)
-        kinds[i] = fill;
-    for (size_t i = 0; i < m; i++)
-        for (size_t j = 0; j < 4; j++)
-            entries[i][j] = fill;
-    found = desk_read(sheet, n, kinds, k, entries, m);
     agree(sheet, n, verdict);
     same(&sheet_area);
-    canary(&kinds_area);
-    canary(&entries_area);
     give(&found, sizeof found);
     give(&verdict, sizeof verdict);
-    give(kinds, k * sizeof *kinds);
-    give(entries, m * sizeof *entries);
+    give_lent(&kinds_area);
+    give_lent(&entries_area);
 }
 
 static void write_sheet(void)
@@ -348,79 +158,106 @@ static void write_sheet(void)
     uint32_t stamp = word();
     size_t m = count(MOST_ENTRIES), room = count(MOST_BYTES);
     uint32_t fill = word();
-    uint32_t *kinds = lend_kinds(k);
-    desk_entry *entries = lend(&entries_area, m * sizeof *entries);
+    uint32_t *kinds = lend_words(&kinds_area, k);
+    const desk_entry *entries = (const desk_entry *)lend_words(&entries_area, 4 * m);
     uint8_t *out = lend_out(room, fill);
 
-    take(entries, m * sizeof *entries);
-    keep(&entries_area);
-    give_word(desk_write(kinds, k, stamp, (const desk_entry *)entries, m, out, room));
+    give_word(desk_write(kinds, k, stamp, entries, m, out, room));
     same(&kinds_area);
     same(&entries_area);
     canary(&out_area);
     give_bytes(out, room);
 }
 
-static void work(void)
-{
-    size_t n = count(MOST_BYTES), room = count(MOST_BYTES);
-    uint32_t fill = word();
-    uint8_t *sheet = lend_sheet(n), *out = lend_out(room, fill);
-    struct desk_worked worked = desk_work(sheet, n, out, room);
+/* What is lent to a call that makes bytes of bytes: a sheet or a text, and a room. */
+struct made {
+    uint8_t *from, *out;
+    size_t n, room;
+};
 
+static struct made lend_made(void)
+{
+    struct made made;
+    uint32_t fill;
+
+    made.n = count(MOST_BYTES);
+    made.room = count(MOST_BYTES);
+    fill = word();
+    made.from = lend_sheet(made.n);
+    made.out = lend_out(made.room, fill);
+    return made;
+}
+
+static void give_made(void)
+{
     same(&sheet_area);
     canary(&out_area);
-    if (worked.row.n > DESK_POSTS)
-        fail("desk_work returned more records than there are");
+    give_bytes(out_area.at, out_area.bytes);
+}
+
+static void few_records(const struct desk_row *row)
+{
+    if (row->n > DESK_POSTS)
+        fail("a working returned more records than there are");
+}
+
+static void give_records(const struct desk_row *row)
+{
+    give(row->posts, row->n * sizeof row->posts[0]);
+}
+
+static void work(void)
+{
+    struct made made = lend_made();
+    struct desk_worked worked = desk_work(made.from, made.n, made.out, made.room);
+
+    few_records(&worked.row);
     give_word(worked.number);
     give_word(worked.block);
     give_word(worked.position);
     give_word((uint32_t)worked.row.n);
     give_head(worked.head);
-    give(worked.row.posts, worked.row.n * sizeof worked.row.posts[0]);
-    give_bytes(out, room);
+    give_records(&worked.row);
+    give_made();
 }
 
-static void why(void)
+static void ask(struct desk_since (*call)(const uint8_t *, size_t, uint32_t))
 {
     size_t n = count(MOST_BYTES);
     uint32_t position = word();
     uint8_t *sheet = lend_sheet(n);
-    struct desk_since since = desk_why(sheet, n, position);
+    struct desk_since since = call(sheet, n, position);
 
     same(&sheet_area);
     give(&since, sizeof since);
 }
 
+static void why(void)
+{
+    ask(desk_why);
+}
+
 static void export_sheet(void)
 {
-    size_t n = count(MOST_BYTES), room = count(MOST_BYTES);
-    uint32_t fill = word();
-    uint8_t *sheet = lend_sheet(n), *out = lend_out(room, fill);
-    struct desk_exported exported = desk_export(sheet, n, out, room);
+    struct made made = lend_made();
+    struct desk_exported exported = desk_export(made.from, made.n, made.out, made.room);
 
-    same(&sheet_area);
-    canary(&out_area);
     give_word(exported.number);
     give_word(exported.block);
     give_word(exported.position);
     give_long(exported.bytes);
-    give_bytes(out, room);
+    give_made();
 }
 
 static void import_text(void)
 {
-    size_t n = count(MOST_BYTES), room = count(MOST_BYTES);
-    uint32_t fill = word();
-    uint8_t *text = lend_sheet(n), *out = lend_out(room, fill);
-    struct desk_imported imported = desk_import(text, n, out, room);
+    struct made made = lend_made();
+    struct desk_imported imported = desk_import(made.from, made.n, made.out, made.room);
 
-    same(&sheet_area);
-    canary(&out_area);
     give_word(imported.number);
     give_long(imported.record);
     give_long(imported.bytes);
-    give_bytes(out, room);
+    give_made();
 }
 
 /* The same call so many bytes before the end of memory: no word of the block lies at a word's place. */
@@ -456,65 +293,160 @@ static void run(void)
     size_t n = count(MOST_POSTS);
     uint32_t stamp = word();
     size_t k = count(MOST_ENTRIES);
-    struct desk_post *row = lend(&row_area, n * sizeof *row);
-    uint32_t *kinds = lend_kinds(n);
-    struct desk_told told;
+    struct desk_post *row = lend_unwritten(&row_area, n);
+    uint32_t *kinds = lend_words(&kinds_area, n);
+    struct desk_told told = desk_start(row, n, kinds, n, stamp);
 
-    memset(row, 0xEE, n * sizeof *row);
-    told = desk_start(row, n, kinds, n, stamp);
     same(&kinds_area);
-    give_told(told, row, n);
+    give_told(told);
     for (size_t i = 0; i < k; i++) {
         uint32_t number = word(), place = word(), at = word();
 
         told = desk_event(row, n, told.head, number, place, at);
-        give_told(told, row, n);
+        give_told(told);
     }
 }
 
-/* ---- the guards themselves */
+/* ---- the same on two tracks */
 
-static void touch_behind(void) { *(volatile uint8_t *)(row_area.at + row_area.bytes) = 0; }
-static void look_behind(void) { (void)*(volatile uint8_t *)(row_area.at + row_area.bytes); }
-static void touch_before(void) { row_area.at[-1] = 0; canary(&row_area); }
-static void touch_lent(void) { row_area.at[0] ^= 1; same(&row_area); }
-
-/* Whether a process that does this is killed, or ends by fail(). */
-static bool noticed(void (*does)(void))
+static void give_both_rows(void)
 {
-    int status;
-    pid_t child = fork();
-
-    if (child == 0) {
-        if (freopen("/dev/null", "w", stderr) == NULL)
-            _exit(0);
-        does();
-        _exit(0);
-    }
-    if (child < 0 || waitpid(child, &status, 0) != child)
-        fail("no process");
-    return !WIFEXITED(status) || WEXITSTATUS(status) == 3;
+    give_lent(&row_area);
+    give_lent(&second_row_area);
 }
 
-static int guards(void)
+static void give_both_told(struct desk_told told)
 {
-    lend(&row_area, 88);
-    keep(&row_area);
-    if (noticed(flush) || !noticed(touch_behind) || !noticed(look_behind) || !noticed(touch_before) || !noticed(touch_lent))
-        fail("a guard does not hold");
-    return 0;
+    give_word(told.answer);
+    give_head(told.head);
+    give_both_rows();
+}
+
+static void start_tracks(void)
+{
+    size_t n = count(MOST_POSTS), m = count(MOST_POSTS), k = count(MOST_POSTS), j = count(MOST_POSTS);
+    uint32_t circuit = word(), stamp = word();
+    struct desk_post *first = lend_row(&row_area, n), *second = lend_row(&second_row_area, m);
+    uint32_t *kinds = lend_words(&kinds_area, k), *others = lend_words(&second_kinds_area, j);
+
+    give_both_told(desk_start_tracks(first, n, second, m, kinds, k, others, j, circuit, stamp));
+    same(&kinds_area);
+    same(&second_kinds_area);
+}
+
+static void valid_tracks(void)
+{
+    size_t n = count(MOST_POSTS), m = count(MOST_POSTS);
+    uint32_t circuit = word();
+    struct desk_head head = take_head();
+    struct desk_post *first = lend_row(&row_area, n), *second = lend_row(&second_row_area, m);
+
+    give_word(desk_valid_tracks(first, n, second, m, circuit, head));
+    give_both_rows();
+}
+
+static void event_tracks(void)
+{
+    size_t n = count(MOST_POSTS), m = count(MOST_POSTS);
+    uint32_t circuit = word();
+    struct desk_head head = take_head();
+    uint32_t track = word(), number = word(), place = word(), stamp = word();
+    struct desk_post *first = lend_row(&row_area, n), *second = lend_row(&second_row_area, m);
+
+    give_both_told(desk_event_tracks(first, n, second, m, circuit, head, track, number, place, stamp));
+}
+
+static void run_tracks(void)
+{
+    size_t n = count(MOST_POSTS), m = count(MOST_POSTS);
+    uint32_t circuit = word(), stamp = word();
+    size_t k = count(MOST_ENTRIES);
+    struct desk_post *first = lend_unwritten(&row_area, n), *second = lend_unwritten(&second_row_area, m);
+    uint32_t *kinds = lend_words(&kinds_area, n), *others = lend_words(&second_kinds_area, m);
+    struct desk_told told = desk_start_tracks(first, n, second, m, kinds, n, others, m, circuit, stamp);
+
+    same(&kinds_area);
+    same(&second_kinds_area);
+    give_both_told(told);
+    for (size_t i = 0; i < k; i++) {
+        uint32_t track = word(), number = word(), place = word(), at = word();
+
+        told = desk_event_tracks(first, n, second, m, circuit, told.head, track, number, place, at);
+        give_both_told(told);
+    }
+}
+
+static void read_tracks(void)
+{
+    size_t n = count(MOST_BYTES), k = count(MOST_WORDS), m = count(MOST_ENTRIES), t = count(MOST_ENTRIES);
+    uint32_t fill = word();
+    uint8_t *sheet = lend_sheet(n);
+    uint32_t *table = lend_filled(&kinds_area, k, fill), *tracks = lend_filled(&tracks_area, t, fill);
+    desk_entry *entries = lend_entries(m, fill);
+    struct desk_verdict verdict = desk_test_tracks(sheet, n);
+    struct desk_found_tracks found = desk_read_tracks(sheet, n, table, k, entries, m, tracks, t);
+
+    agree(sheet, n, verdict);
+    same(&sheet_area);
+    give(&found, sizeof found);
+    give(&verdict, sizeof verdict);
+    give_lent(&kinds_area);
+    give_lent(&entries_area);
+    give_lent(&tracks_area);
+}
+
+static void write_tracks(void)
+{
+    uint32_t form = word();
+    size_t k = count(MOST_WORDS);
+    uint32_t stamp = word();
+    size_t m = count(MOST_ENTRIES), t = count(MOST_ENTRIES), room = count(MOST_BYTES);
+    uint32_t fill = word();
+    uint32_t *table = lend_words(&kinds_area, k);
+    const desk_entry *entries = (const desk_entry *)lend_words(&entries_area, 4 * m);
+    uint32_t *tracks = lend_words(&tracks_area, t);
+    uint8_t *out = lend_out(room, fill);
+
+    give_word(desk_write_tracks(form, table, k, stamp, entries, m, tracks, t, out, room));
+    same(&kinds_area);
+    same(&entries_area);
+    same(&tracks_area);
+    canary(&out_area);
+    give_bytes(out, room);
+}
+
+static void work_tracks(void)
+{
+    struct made made = lend_made();
+    struct desk_worked_tracks worked = desk_work_tracks(made.from, made.n, made.out, made.room);
+
+    few_records(&worked.first);
+    few_records(&worked.second);
+    give_word(worked.number);
+    give_word(worked.block);
+    give_word(worked.position);
+    give_word(worked.tracks);
+    give_word((uint32_t)worked.first.n);
+    give_word((uint32_t)worked.second.n);
+    give_head(worked.head);
+    give_records(&worked.first);
+    give_records(&worked.second);
+    give_made();
+}
+
+static void why_tracks(void)
+{
+    ask(desk_why_tracks);
 }
 
 int main(int words, char **word_at)
 {
     static void (*const calls[])(void) = {start, valid, event, read_sheet, write_sheet, work, run, why,
-                                          export_sheet, import_text, check};
+                                          export_sheet, import_text, check, start_tracks, valid_tracks,
+                                          event_tracks, run_tracks, read_tracks, write_tracks, work_tracks,
+                                          why_tracks};
 
-    make(&row_area);
-    make(&kinds_area);
-    make(&entries_area);
-    make(&sheet_area);
-    make(&out_area);
+    make_all();
     if (words == 2 && strcmp(word_at[1], "--guards") == 0)
         return guards();
     while (more()) {

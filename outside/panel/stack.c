@@ -15,13 +15,15 @@ enum { STACK = 1 << 20, PAINT = 0x5C, WORD = 8, APART = 256 };
 static uint8_t stack[STACK] __attribute__((aligned(16)));
 static ucontext_t here, there;
 
-static struct desk_post row[DESK_POSTS];
-static uint32_t kinds[DESK_POSTS];
+static struct desk_post row[DESK_POSTS], second[DESK_POSTS];
+static uint32_t kinds[DESK_POSTS], table[2 * DESK_POSTS + 1], tracks[60];
 static struct desk_head head;
 static struct desk_told told;
 static struct desk_verdict verdict;
 static struct desk_found found;
+static struct desk_found_tracks found_tracks;
 static struct desk_worked worked;
+static struct desk_worked_tracks worked_tracks;
 static struct desk_since since;
 static struct desk_exported exported;
 static struct desk_imported imported;
@@ -54,6 +56,38 @@ static void one_why(void) { since = AS(desk_why)(out, sizeof out, 60); }
 static void one_export(void) { exported = AS(desk_export)(out, sizeof out, text, sizeof text); }
 static void one_import(void) { imported = AS(desk_import)(text, exported.bytes, sheet, sizeof sheet); }
 static void one_wrong(void) { imported = AS(desk_import)(text, exported.bytes - 1, sheet, sizeof sheet); }
+
+/* The same on two tracks. */
+static void one_valid_tracks(void)
+{
+    told.answer = AS(desk_valid_tracks)(row, DESK_POSTS, second, DESK_POSTS, DESK_POLARISED, head);
+}
+static void one_start_tracks(void)
+{
+    told = AS(desk_start_tracks)(row, DESK_POSTS, second, DESK_POSTS, kinds, DESK_POSTS, kinds, DESK_POSTS,
+                                 DESK_POLARISED, 0);
+}
+static void one_event_tracks(void)
+{
+    told = AS(desk_event_tracks)(row, DESK_POSTS, second, DESK_POSTS, DESK_POLARISED, head, 0, 5, 0, 0);
+}
+/* The announcement of the other track between the same two posts. */
+static void one_meets(void)
+{
+    told = AS(desk_event_tracks)(row, DESK_POSTS, second, DESK_POSTS, DESK_POLARISED, head, 1, 5, DESK_POSTS - 2, 0);
+}
+static void one_test_tracks(void) { verdict = AS(desk_test_tracks)(sheet, sizeof sheet); }
+static void one_read_tracks(void)
+{
+    found_tracks = AS(desk_read_tracks)(sheet, sizeof sheet, table, 2 * DESK_POSTS + 1, entries, 60, tracks, 60);
+}
+static void one_write_tracks(void)
+{
+    number = AS(desk_write_tracks)(2, table, 2 * DESK_POSTS + 1, 0, (const desk_entry *)entries, 60, tracks, 60, sheet,
+                                   sizeof sheet);
+}
+static void one_work_tracks(void) { worked_tracks = AS(desk_work_tracks)(sheet, sizeof sheet, out, sizeof out); }
+static void one_why_tracks(void) { since = AS(desk_why_tracks)(out, sizeof out, 60); }
 
 /* Adds to the first event word, and takes as much off the check. */
 static void add_to_event(uint32_t by)
@@ -120,6 +154,30 @@ static void print(const char *name, void (*one)(void), void (*what)(void), uint3
 #define NAMED(name, one, call, wanted, got) print(name, one, (void (*)(void))call, wanted, got)
 #define PRINT(one, call, wanted, got) NAMED(#call, one, call, wanted, got)
 
+static void on_two_tracks(void)
+{
+    /* the kinds twice, and a polarised circuit; the last event but one is of track 2 */
+    memcpy(table, kinds, sizeof kinds);
+    memcpy(table + DESK_POSTS, kinds, sizeof kinds);
+    tracks[58] = 1;
+    PRINT(one_start_tracks, desk_start_tracks, 0, &told.answer);
+    head = told.head;
+    PRINT(one_event_tracks, desk_event_tracks, 0, &told.answer);
+    head = told.head;
+    NAMED("desk_event_tracks, refused", one_meets, desk_event_tracks, 25, &told.answer);
+    PRINT(one_valid_tracks, desk_valid_tracks, 1, &told.answer);
+    PRINT(one_write_tracks, desk_write_tracks, 0, &number);
+    PRINT(one_test_tracks, desk_test_tracks, 0, &verdict.number);
+    PRINT(one_read_tracks, desk_read_tracks, 0, &found_tracks.number);
+    add_to_event(1u << 17);
+    NAMED("desk_test_tracks, refused", one_test_tracks, desk_test_tracks, 24, &verdict.number);
+    NAMED("desk_read_tracks, refused", one_read_tracks, desk_read_tracks, 24, &found_tracks.number);
+    NAMED("desk_work_tracks, refused", one_work_tracks, desk_work_tracks, 24, &worked_tracks.number);
+    add_to_event(-(1u << 17));
+    PRINT(one_work_tracks, desk_work_tracks, 0, &worked_tracks.number);
+    PRINT(one_why_tracks, desk_why_tracks, 1, &since.position);
+}
+
 int main(void)
 {
     /* intermediate posts in both forms by turns, and a short terminus */
@@ -149,5 +207,6 @@ int main(void)
     PRINT(one_export, desk_export, 0, &exported.number);
     PRINT(one_import, desk_import, 0, &imported.number);
     NAMED("desk_import, refused", one_wrong, desk_import, 28, &imported.number);
+    on_two_tracks();
     return 0;
 }

@@ -133,13 +133,7 @@ impl Bad {
     /// Which call it is, and what it is given; nothing where no event word has such bits, or it
     /// is a call that reads no sheet.
     pub fn new(request: &Request, reply: &[u32]) -> Option<(usize, Self)> {
-        let (call, sheet) = match request {
-            Request::Read { sheet, .. } => (0, sheet),
-            Request::Work { sheet, .. } => (1, sheet),
-            Request::Why { sheet, .. } => (2, sheet),
-            Request::Export { sheet, .. } => (3, sheet),
-            _ => return None,
-        };
+        let (call, sheet) = request.sheet_read()?;
         let bad = Bad {
             request: request.clone(),
             sheet: sheet.clone(),

@@ -77,6 +77,16 @@ pub struct Wanted {
     pub blocks: u64,
 }
 
+/// What the gate runs.
+pub const WHOLE: Wanted = Wanted {
+    events: 2_000_000,
+    rows: 500_000,
+    sheets: 200_000,
+    questions: 20_000,
+    texts: 200_000,
+    blocks: 50_000,
+};
+
 pub const ALTERED_ROWS: &str = "altered-rows";
 pub const FIELDS: &str = "fields";
 

@@ -5,7 +5,7 @@ use std::os::fd::OwnedFd;
 use std::os::unix::net::UnixStream;
 use std::process::Stdio;
 
-use model::program::{asked, wrote, Wrote, UNREAD};
+use model::program::{asked, wrote_tracks, Wrote, UNREAD};
 use model::{paper, BLOCK_BYTES, MOST_BLOCKS, MOST_EVENTS};
 
 use crate::child::TIME_LIMIT;
@@ -47,7 +47,7 @@ pub fn check_failing_inputs(command: &[String]) -> Result<usize, String> {
                 }
             };
             let ended = run_on(&command, bytes, Given::AtOnce);
-            compared(ended, &wrote(asked, bytes)).map_err(named("ends"))?;
+            compared(ended, &wrote_tracks(asked, bytes)).map_err(named("ends"))?;
             let failed = run_on_failing(&command, bytes);
             compared(failed, &Wrote::saying(UNREAD)).map_err(named("fails"))?;
         }

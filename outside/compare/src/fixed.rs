@@ -1,6 +1,6 @@
 //! The working program's fixed cases, always run: sheets to list.
 
-use model::program::{asked, wrote, Wrote};
+use model::program::{asked, wrote_tracks, Wrote};
 use model::{paper, short, stuck, Entry, Listed, MOST_EVENTS, UNANSWERED};
 
 use crate::histories::{near_stamp, stuck_pupils_event, Play};
@@ -73,7 +73,7 @@ pub fn computed(name: &'static str, words: &'static [&'static str], input: Vec<u
     Fixed {
         name,
         words,
-        wrote: wrote(asked, &input),
+        wrote: wrote_tracks(asked, &input),
         input,
     }
 }

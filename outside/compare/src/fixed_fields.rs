@@ -7,9 +7,11 @@ use model::{EVENTS_PER_BLOCK, MOST_EVENTS};
 use crate::fixed::{short_sheet, Fixed};
 use crate::sheets::{get, put, renew};
 
-/// The words that read a sheet, and how a refusal is written: printed, or said on standard
-/// error.
-pub const WORDS: [(&[&str], fn(&str) -> Wrote); 4] = [
+/// Words of the program, and how it writes a refusal: printed, or said on standard error.
+type Refusing = (&'static [&'static str], fn(&str) -> Wrote);
+
+/// The words that read a sheet.
+pub const WORDS: [Refusing; 4] = [
     (&[], Wrote::printing),
     (&["work"], Wrote::saying),
     (&["why", "1"], Wrote::printing),

@@ -54,10 +54,7 @@ pub const FULL: &[Variety] = &[
         work(random, vec![0; FULL_BYTES], 0)
     }),
     ("33,280 bytes of right checks", |random| {
-        let mut sheet = full_sheet(random).bytes();
-        sheet.resize(FULL_BYTES + BLOCK_BYTES, 0);
-        put(&mut sheet, MOST_BLOCKS, 0, 1);
-        renew(&mut sheet, MOST_BLOCKS);
+        let sheet = one_block_more(full_sheet(random).bytes());
         if random.chance(50) {
             return read(random, sheet, 3900);
         }
@@ -117,20 +114,33 @@ fn full_worked(random: &mut Random) -> Sheet {
     full_sheet(random).worked()
 }
 
-/// Wrong in its check or, under a right one, in its contents or in the last event of all.
 fn last_bad(random: &mut Random) -> Vec<u8> {
     let mut sheet = full_sheet(random).bytes();
+    spoil_last(random, &mut sheet, 16);
+    sheet
+}
+
+/// The last block of a full sheet is made wrong in its check or, under a right one, in its
+/// contents or in this bit of the last event of all.
+pub fn spoil_last(random: &mut Random, sheet: &mut [u8], bit: u32) {
     let (last, last_event) = (MOST_BLOCKS - 1, 2 * EVENTS_PER_BLOCK - 1);
     match random.below(4) {
         0 | 1 => {
-            let word = get(&sheet, last, last_event);
-            put(&mut sheet, last, last_event, word | 1 << 16);
+            let word = get(sheet, last, last_event);
+            put(sheet, last, last_event, word | 1 << bit);
         }
-        _ => put(&mut sheet, last, 126, 1),
+        _ => put(sheet, last, 126, 1),
     }
     if random.chance(70) {
-        renew(&mut sheet, last);
+        renew(sheet, last);
     }
+}
+
+/// A full sheet, and one block of one event behind it, under a right check.
+pub fn one_block_more(mut sheet: Vec<u8>) -> Vec<u8> {
+    sheet.resize(FULL_BYTES + BLOCK_BYTES, 0);
+    put(&mut sheet, MOST_BLOCKS, 0, 1);
+    renew(&mut sheet, MOST_BLOCKS);
     sheet
 }
 

@@ -1,6 +1,8 @@
 //! The working program, run once for each input, beside what the model writes.
 
-use model::program::{asked, wrote};
+use std::io;
+
+use model::program::{asked, wrote_tracks};
 use model::{BLOCK_BYTES, EVENTS_PER_BLOCK, MOST_EVENTS};
 
 use crate::damage::KINDS;
@@ -10,12 +12,13 @@ use crate::fixed_fields::{field_cases, WORDS};
 use crate::fixed_texts::{check_byte_by_byte, check_long_texts, register_cases};
 use crate::misprints;
 use crate::questions::QUESTIONS;
-use crate::ran::{compared, run_on, with_words, Given};
+use crate::ran::{compared, run_on, with_words, Given, Ran};
 use crate::random::Random;
 use crate::request::Request;
 use crate::sheets::{get, lively_sheet};
 use crate::spoiled::SPOILED;
 use crate::texts::{Text, RIGHT};
+use crate::tracks::programs;
 use crate::upper_bits::bad_at;
 use crate::words::{check_pipes, check_wrong_words, why_cases, work_cases};
 
@@ -149,17 +152,22 @@ fn bad_field(random: &mut Random, index: u64) -> Asked {
     asked_of("upper bits", words, bad_at(random, position, answered))
 }
 
+/// Most often at once, else in pieces; a small input also byte by byte.
+pub fn some_given(random: &mut Random, bytes: usize) -> Given {
+    match random.below(8) {
+        0 if bytes <= SMALL => Given::InPieces(1),
+        1 => Given::InPieces(random.between(2, 700)),
+        _ => Given::AtOnce,
+    }
+}
+
 /// One run compared; the text of a difference if there is one.
 fn check_random(command: &[String], seed: u64, sort: &Sort, index: u64) -> Result<(), String> {
     let mut random = Random::of_case(seed, sort.number, index);
     let Asked { name, words, input } = (sort.make)(&mut random, index);
-    let given = match random.below(8) {
-        0 if input.len() <= SMALL => Given::InPieces(1),
-        1 => Given::InPieces(random.between(2, 700)),
-        _ => Given::AtOnce,
-    };
+    let given = some_given(&mut random, input.len());
     let words: Vec<&str> = words.iter().map(String::as_str).collect();
-    let right = wrote(asked(&words).ok_or("a wrong word")?, &input);
+    let right = wrote_tracks(asked(&words).ok_or("a wrong word")?, &input);
     let ran = run_on(&with_words(command, words.iter().copied()), &input, given);
     compared(ran, &right).map_err(|text| {
         let (sort, bytes) = (sort.name, input.len());
@@ -189,9 +197,43 @@ fn check_fixed(command: &[String]) -> Result<usize, String> {
     Ok(ran)
 }
 
+/// How many random sheets there are: of one track, and of either form.
+#[derive(Clone, Copy)]
+pub struct Sheets {
+    pub of_one: u64,
+    pub of_either: u64,
+}
+
+/// What ran, and what was wanted of it and never came up.
+#[derive(Debug)]
+pub struct Done {
+    pub text: String,
+    pub missing: Vec<String>,
+}
+
 /// The fixed cases, the long texts, the inputs that fail and then so many random sheets, half as
-/// many for each word and with a bad field, and as many texts. What ran, or the first difference.
-pub fn compare_program(command: &[String], seed: u64, sheets: u64) -> Result<String, String> {
+/// many for each word and with a bad field, and as many texts; then those of two tracks. What
+/// ran, or the first difference.
+pub fn compare_program(command: &[String], seed: u64, sheets: Sheets) -> Result<Done, String> {
+    let of_one = compare_one_track(command, seed, sheets.of_one)?;
+    let mut program = as_program(command);
+    let fixed = programs::compare_fixed(&mut program)?;
+    let seen = programs::compare_random(seed, sheets.of_either, &mut program)?;
+    Ok(Done {
+        text: format!(
+            "{of_one}; of two tracks: {fixed} fixed runs, {} random sheets of either form",
+            sheets.of_either
+        ),
+        missing: seen.rare(u64::MAX),
+    })
+}
+
+/// The command as something to ask.
+pub fn as_program(command: &[String]) -> impl FnMut(&[&str], &[u8], Given) -> io::Result<Ran> + '_ {
+    |words, input, given| run_on(&with_words(command, words.iter().copied()), input, given)
+}
+
+fn compare_one_track(command: &[String], seed: u64, sheets: u64) -> Result<String, String> {
     let fixed = check_fixed(command)?;
     let wrong = check_wrong_words(command)?;
     let pipes = check_pipes(command)?;
@@ -212,15 +254,17 @@ pub fn compare_program(command: &[String], seed: u64, sheets: u64) -> Result<Str
 }
 
 /// Replays one random input, named by its sort, a colon and its index.
-pub fn only_program(command: &[String], seed: u64, name: &str) -> Result<String, String> {
+pub fn only_program(command: &[String], seed: u64, name: &str) -> Result<(), String> {
     let wanted = "no such case: \"desk\", \"desk-work\", \"desk-why\", \"desk-export\", \
-        \"desk-import\" or \"desk-fields\", a colon and a number are wanted";
+        \"desk-import\", \"desk-fields\" or \"desk-tracks\", a colon and a number are wanted";
     let (sort, index) = name.split_once(':').ok_or(wanted)?;
+    let index = index.parse().map_err(|_| wanted)?;
+    if sort == programs::NAME {
+        return programs::compare_one(seed, index, &mut as_program(command)).map(|_| ());
+    }
     let sort = SORTS
         .iter()
         .find(|known| known.name == sort)
         .ok_or(wanted)?;
-    let index = index.parse().map_err(|_| wanted)?;
-    check_random(command, seed, sort, index)?;
-    Ok(name.to_string())
+    check_random(command, seed, sort, index)
 }

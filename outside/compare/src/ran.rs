@@ -15,6 +15,14 @@ pub struct Ran {
     ended_well: bool,
 }
 
+impl Ran {
+    /// A program that wrote this and ended with status 0.
+    pub fn well(wrote: Wrote) -> Ran {
+        let ended_well = true;
+        Ran { wrote, ended_well }
+    }
+}
+
 /// How the sheet is given to the program.
 #[derive(Clone, Copy, PartialEq)]
 pub enum Given {

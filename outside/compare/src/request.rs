@@ -77,6 +77,18 @@ pub enum Request {
 }
 
 impl Request {
+    /// The sheet of a call that reads one on one track, and which of those calls it is: reading,
+    /// working, since when, export.
+    pub fn sheet_read(&self) -> Option<(usize, &Vec<u8>)> {
+        match self {
+            Request::Read { sheet, .. } => Some((0, sheet)),
+            Request::Work { sheet, .. } => Some((1, sheet)),
+            Request::Why { sheet, .. } => Some((2, sheet)),
+            Request::Export { sheet, .. } => Some((3, sheet)),
+            _ => None,
+        }
+    }
+
     /// The request as the server reads it.
     pub fn words(&self) -> Vec<u32> {
         let size = |n: usize| n as u32;

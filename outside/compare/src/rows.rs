@@ -158,10 +158,11 @@ fn head(random: &mut Random, taken: u32) -> Request {
     asked(random, play, |_, _| ())
 }
 
-/// Rows of 0, 1, 33 and more records that would be fresh lines if they were not
-/// of that length.
-fn odd_length(random: &mut Random) -> Request {
-    let posts = random.pick(&[0, 0, 1, 1, 33, 33, 34, 40, 64]);
+/// Lengths that no line has.
+pub const ODD_LENGTHS: [usize; 9] = [0, 0, 1, 1, 33, 33, 34, 40, 64];
+
+/// So many records, which would be a fresh line if they were not so few or so many.
+pub fn odd_row(random: &mut Random, posts: usize) -> Vec<Post> {
     let mut row: Vec<Post> = Vec::new();
     for at in 0..posts {
         let terminus = at + 1 == posts && at > 0;
@@ -177,6 +178,12 @@ fn odd_length(random: &mut Random) -> Request {
             ..Post::default()
         });
     }
+    row
+}
+
+fn odd_length(random: &mut Random) -> Request {
+    let posts = random.pick(&ODD_LENGTHS);
+    let row = odd_row(random, posts);
     let head = Head {
         taken: random.small(0, 9),
         last: random.edge_word(),

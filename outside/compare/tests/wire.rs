@@ -7,9 +7,10 @@ use compare::child::ChildLibrary;
 use compare::desk::Library;
 use compare::failing::{failing_inputs, failing_texts};
 use compare::fixed::sheet_of_everything;
-use compare::program::compare_program;
+use compare::program::{as_program, compare_program, Sheets};
 use compare::run::{compare, named_case, only};
 use compare::tracks::cases as tracks;
+use compare::tracks::programs;
 
 const SERVER: &str = env!("CARGO_BIN_EXE_model_server");
 
@@ -86,15 +87,26 @@ fn replayed_alone(sorts: Vec<Sort>) {
 
 #[test]
 fn the_models_program_passes() {
-    let run = compare_program(&command(&[SERVER, "--desk"]), 3, 60);
-    assert!(run.is_ok(), "{run:?}");
+    let sheets = Sheets {
+        of_one: 60,
+        of_either: 1_000,
+    };
+    let run = compare_program(&command(&[SERVER, "--desk"]), 3, sheets);
+    assert!(
+        run.as_ref().is_ok_and(|done| done.missing.is_empty()),
+        "{run:?}"
+    );
 }
 
 /// The line of a shell, as a program with the words behind it, must be found, and the
 /// difference has this text.
 fn must_be_found(wrong: &[(String, &str)]) {
     for (line, text) in wrong {
-        let run = compare_program(&command(&["sh", "-c", line, "sh"]), 3, 10);
+        let sheets = Sheets {
+            of_one: 10,
+            of_either: 60,
+        };
+        let run = compare_program(&command(&["sh", "-c", line, "sh"]), 3, sheets);
         let found = run.expect_err(line);
         assert!(found.contains(text), "{line}: {found}");
     }
@@ -348,6 +360,55 @@ fn a_program_with_wrong_words_of_registers_is_found() {
             "[\"import\"], an input that fails",
         ),
     ]);
+}
+
+/// The program, but for a sheet of two tracks: there this line stands in its place.
+fn but_for_two_tracks(words: &str, line: &str) -> String {
+    let so = format!(
+        "f=$(mktemp); if cat >$f 2>/dev/null; then case $(od -An -tu4 -N4 $f) in *' 2') {line};; \
+        *) DESK <$f;; esac; else echo the input could not be read >&2; fi; rm $f"
+    );
+    but_for(words, &so)
+}
+
+#[test]
+fn a_program_wrong_on_two_tracks_is_found() {
+    let event = "s/^(([0-9]+ ){3}[0-9]+) [01]$/\\1/";
+    let wrong = [
+        (but_for_two_tracks("''", "echo refused 20 0"), "words []"),
+        (
+            but_for_two_tracks("work", "echo refused 20 0 >&2"),
+            "\"our example\", words [\"work\"]",
+        ),
+        (
+            but_for_two_tracks("'why '*", "echo refused 20 0"),
+            "\"our example\", words [\"why\", \"2\"]",
+        ),
+        (
+            but_for_two_tracks("export", "echo refused 21 0 >&2"),
+            "\"our example\", words [\"export\"]",
+        ),
+        // No track in a line: of an event, of a section, of the event that is named.
+        (printed_so("''", event), "line 1: "),
+        (
+            printed_so("''", "s/^(S( [0-9]+){10}) [01]$/\\1/"),
+            "line 22: ",
+        ),
+        (printed_so("'why '*", event), "words [\"why\", \"11\"]"),
+        // Room for the longest listing of one track.
+        (
+            but_for("''", "DESK | head -c 58000"),
+            "\"3,780 events of two tracks\", words []",
+        ),
+    ];
+    for (line, text) in wrong {
+        let command = command(&["sh", "-c", &line, "sh"]);
+        let found = programs::compare_fixed(&mut as_program(&command)).expect_err(&line);
+        assert!(found.contains(text), "{line}: {found}");
+    }
+    let right = command(&[SERVER, "--desk"]);
+    let count = programs::fixed_runs().len();
+    assert_eq!(programs::compare_fixed(&mut as_program(&right)), Ok(count));
 }
 
 #[test]

@@ -16,11 +16,14 @@ use model::{BLOCK_BYTES, EVENTS_PER_BLOCK, MOST_EVENTS};
 /// The calls that say what is wrong with a sheet.
 const CALLS: [&str; 5] = ["test", "read", "work", "why", "export"];
 
+/// The sheet that a call takes one for.
+type Taken = Box<dyn Fn(&[u8]) -> Vec<u8>>;
+
 enum Fault {
     /// Another verdict in the place of the right one, by the sheet.
     Says(fn(&[u8], Verdict) -> Verdict),
     /// The sheet taken for another.
-    Takes(Box<dyn Fn(&[u8]) -> Vec<u8>>),
+    Takes(Taken),
 }
 
 /// A desk with a fault in one call.

@@ -5,7 +5,7 @@ mod common;
 
 use common::{must_differ, refused, right, small_run, Events};
 use compare::bad_fields::{BITS, OF_ALL};
-use compare::cases::{sorts, Wanted};
+use compare::cases::{sorts, Wanted, WHOLE};
 use compare::checked::CHECKED;
 use compare::desk::{Desk, InProcess, Model};
 use compare::moments::{ALTERED, MOMENTS};
@@ -61,16 +61,8 @@ fn what_does_not_come_up_is_missed() {
 #[test]
 #[ignore = "long; it measures what the comparison alone costs"]
 fn the_model_passes_a_whole_run() {
-    let wanted = Wanted {
-        events: 2_000_000,
-        rows: 500_000,
-        sheets: 200_000,
-        questions: 20_000,
-        texts: 200_000,
-        blocks: 50_000,
-    };
     let began = std::time::Instant::now();
-    let run = compare(&sorts(), 317_944, wanted, &mut InProcess(Model));
+    let run = compare(&sorts(), 317_944, WHOLE, &mut InProcess(Model));
     let tally = run.unwrap_or_else(|d| panic!("{}: {}", d.name, d.text));
     println!("{}{:?}", tally.text(&sorts()), began.elapsed());
     assert_eq!(tally.missing(&sorts()), Vec::<String>::new());

@@ -1,12 +1,27 @@
 //! Working programs that are the model with one fault about two tracks put in (02, item 7): each
 //! must be found by a small run.
 
+use compare::counts::Counts;
+use compare::ran::Ran;
 use compare::random::Random;
-use compare::tracks::programs::{compare_fixed, compare_random, random_run, RUNS};
+use compare::tracks::programs::{self, random_run, Run, RUNS};
 use compare::tracks::sheets::TrackSheet;
 use model::program::{asked, wrote, wrote_tracks, Wrote};
 
 const FEW: u64 = 2_000;
+
+/// A program in this process: what it writes, by its words and its input.
+type Writes<'a> = &'a mut dyn FnMut(&[&str], &[u8]) -> Wrote;
+
+fn compare_random(count: u64, program: Writes) -> Result<Counts<Run>, String> {
+    programs::compare_random(1, count, &mut |words, input, _| {
+        Ok(Ran::well(program(words, input)))
+    })
+}
+
+fn compare_fixed(program: Writes) -> Result<usize, String> {
+    programs::compare_fixed(&mut |words, input, _| Ok(Ran::well(program(words, input))))
+}
 
 fn right(words: &[&str], input: &[u8]) -> Wrote {
     asked(words).map_or(Wrote::default(), |asked| wrote_tracks(asked, input))
@@ -14,19 +29,19 @@ fn right(words: &[&str], input: &[u8]) -> Wrote {
 
 #[test]
 fn the_model_passes_and_all_is_seen() {
-    let run = compare_random(1, FEW, &mut |words, input| right(words, input));
+    let run = compare_random(FEW, &mut |words, input| right(words, input));
     let seen = run.unwrap_or_else(|text| panic!("{text}"));
     println!("{}", seen.text());
     assert_eq!(seen.rare(u64::MAX), Vec::<String>::new());
     assert_eq!(
         compare_fixed(&mut |words, input| right(words, input)),
-        Ok(())
+        Ok(programs::fixed_runs().len())
     );
 }
 
 #[test]
 fn what_does_not_come_up_is_missed() {
-    let run = compare_random(1, 0, &mut |words, input| right(words, input));
+    let run = compare_random(0, &mut |words, input| right(words, input));
     assert_eq!(run.map(|seen| seen.rare(u64::MAX).len()), Ok(RUNS.len()));
 }
 
@@ -139,7 +154,7 @@ fn wrong_texts() {
     for fault in FAULTS {
         let name = fault.0;
         let mut program = |words: &[&str], input: &[u8]| with_fault(fault, words, input);
-        let found = compare_random(1, FEW, &mut program);
+        let found = compare_random(FEW, &mut program);
         println!(
             "{name}: {}",
             found.err().unwrap_or_else(|| panic!("not found: {name}"))
@@ -153,7 +168,7 @@ fn wrong_texts() {
 #[test]
 fn two_tracks_refused() {
     for word in ["", "work", "why"] {
-        let found = compare_random(1, FEW, &mut |words, input| match (
+        let found = compare_random(FEW, &mut |words, input| match (
             asked(words),
             words.first().copied().unwrap_or("") == word,
         ) {
@@ -169,12 +184,12 @@ fn two_tracks_refused() {
 #[test]
 fn wrong_exports() {
     let exports = |words: &[&str]| words == ["export"];
-    let early = compare_random(1, FEW, &mut |words, input| match asked(words) {
+    let early = compare_random(FEW, &mut |words, input| match asked(words) {
         Some(asked) if exports(words) => wrote(asked, input),
         _ => right(words, input),
     });
     assert!(early.is_err());
-    let track_1 = compare_random(1, FEW, &mut |words, input| {
+    let track_1 = compare_random(FEW, &mut |words, input| {
         let two = TrackSheet::of(input).filter(|sheet| exports(words) && sheet.form == 2);
         let Some(mut sheet) = two else {
             return right(words, input);

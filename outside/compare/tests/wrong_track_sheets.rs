@@ -9,7 +9,9 @@ use compare::sheets::{blocks, get, put, renew};
 use compare::tracks::request::Rooms;
 use compare::tracks::sheets::TrackSheet;
 use model::number::CONTENTS;
-use model::{check, FoundTracks, Since, Verdict, WorkedTracks, BLOCK_BYTES};
+use model::{
+    check, Entry, Exported, Found, FoundTracks, Since, Verdict, Worked, WorkedTracks, BLOCK_BYTES,
+};
 
 /// The calls that read a sheet of either form.
 const CALLS: [&str; 4] = ["test", "read", "work", "why"];
@@ -592,6 +594,55 @@ const EXPLAINED: &[Explained] = &[
 fn wrong_questions() {
     for &(name, explained) in EXPLAINED {
         is_found(name, run_of_sheets(Explains(explained)));
+    }
+}
+
+/// A desk of which one call of one track takes sheets of both forms.
+struct TakesBoth(&'static str);
+
+impl Desk for TakesBoth {
+    fn test(&mut self, sheet: &[u8]) -> Verdict {
+        match self.0 {
+            "test" => model::test_tracks(sheet),
+            _ => model::test(sheet),
+        }
+    }
+
+    fn read(&mut self, sheet: &[u8], kinds: &mut [u32], events: &mut [Entry]) -> Found {
+        let mut tracks = vec![0; events.len()];
+        match self.0 {
+            "read" => model::read_tracks(sheet, kinds, events, &mut tracks).into(),
+            _ => model::read(sheet, kinds, events),
+        }
+    }
+
+    fn work(&mut self, sheet: &[u8], out: &mut [u8]) -> Worked {
+        match self.0 {
+            "work" => model::work_tracks(sheet, out).into(),
+            _ => model::work(sheet, out),
+        }
+    }
+
+    fn why(&mut self, sheet: &[u8], position: u32) -> Since {
+        match self.0 {
+            "why" => model::why_tracks(sheet, position),
+            _ => model::why(sheet, position),
+        }
+    }
+
+    fn export(&mut self, sheet: &[u8], out: &mut [u8]) -> Exported {
+        match self.0 {
+            "export" => model::export_tracks(sheet, out),
+            _ => model::export(sheet, out),
+        }
+    }
+}
+
+#[test]
+fn two_tracks_taken_by_a_call_of_one() {
+    assert!(run_of_sheets(TakesBoth("none")).is_ok());
+    for call in ["test", "read", "work", "why", "export"] {
+        is_found(call, run_of_sheets(TakesBoth(call)));
     }
 }
 

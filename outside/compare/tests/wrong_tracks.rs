@@ -7,8 +7,9 @@ use common::first;
 use common::tracks::{must_differ, small_run};
 use compare::desk::{Desk, InProcess, Model};
 use compare::tracks::asked::OF_ALL;
-use compare::tracks::cases::{compare_tracks, sorts, Wanted};
+use compare::tracks::cases::{compare_tracks, sorts, Wanted, WHOLE};
 use compare::tracks::met::MET;
+use compare::tracks::of_one::{self, GIVEN};
 use compare::tracks::request::{Rows, Tables};
 use compare::tracks::tally::CALLS;
 use compare::tracks::two::Two;
@@ -29,14 +30,8 @@ fn the_model_passes_and_all_is_seen() {
 #[test]
 #[ignore = "long; it measures what the comparison alone costs"]
 fn the_model_passes_a_whole_run() {
-    let wanted = Wanted {
-        events: 1_500_000,
-        rows: 300_000,
-        sheets: 100_000,
-        questions: 20_000,
-    };
     let began = std::time::Instant::now();
-    let run = compare_tracks(&sorts(), 317_944, wanted, &mut InProcess(Model));
+    let run = compare_tracks(&sorts(), 317_944, WHOLE, &mut InProcess(Model));
     let tally = run.unwrap_or_else(|d| panic!("{}: {}", d.name, d.text));
     println!("{}{:?}", tally.text(&sorts()), began.elapsed());
     assert_eq!(tally.missing(&sorts()), Vec::<String>::new());
@@ -58,6 +53,9 @@ fn what_does_not_come_up_is_missed() {
     assert_eq!(lines("altered pairs of lines, "), USED.len());
     assert_eq!(lines("starts of two tracks, "), STARTED.len());
     assert_eq!(lines("event "), 24);
+    assert_eq!(lines("no event of two tracks at"), 31);
+    let as_one: usize = of_one::CALLS.iter().map(|(_, name)| lines(name)).sum();
+    assert_eq!(as_one, 4 * GIVEN.len());
     assert_eq!(lines("no call on a sheet"), 8);
     let sheets: usize = CALLS.iter().map(|(_, own)| own.len()).sum();
     assert_eq!(lines("sheets "), 3 * OF_ALL.len() + sheets);
@@ -498,6 +496,12 @@ const VALIDS: &[Valids] = &[
         without_pairs(two, |rows, s| {
             rows[0][s].is_up(W314) && rows[1][facing(&rows[1], s)].is_up(W314)
         })
+    }),
+    ("33 posts", |two| {
+        two.is_valid() || two.rows.iter().all(|row| row.len() == 33)
+    }),
+    ("no posts", |two| {
+        two.is_valid() || two.rows.iter().all(Vec::is_empty)
     }),
     ("1,000,001 taken", |two| {
         let mut two = two.clone();

@@ -1,5 +1,7 @@
 //! The calls of `include/desk.h` over slices: what C must promise of its pointers holds of every slice, so none of
-//! these functions asks anything of its caller. What each promises stands in the header.
+//! these functions asks anything of its caller. What each promises stands in the header. Those here are of one track.
+
+pub mod tracks;
 
 /// The relays, as bits of the word of a post. `JAM` is up while the release button of the post is stuck; it is always
 /// down at the origin, which has no such button.
@@ -41,7 +43,7 @@ pub struct Head {
     pub last: u32,
 }
 
-/// An answer (of a start 0 or 1; of an event 0 to 17, 22 or 23) and the head after it.
+/// An answer (of a start 0 or 1; of an event 0 to 17, 22 or 23, and on two tracks also 25) and the head after it.
 #[repr(C)]
 #[derive(Clone, Copy, Debug, Default, PartialEq, Eq)]
 pub struct Told {
@@ -50,8 +52,8 @@ pub struct Told {
 }
 
 /// A sheet's refusal (18, 19, 20 or 24), the block that it names, and for 24 the position in that block, from 0, of the
-/// first event word whose bits 16 to 31 are not zero; 0 for any other number, and zeros where nothing is refused. What
-/// the calls below return of a sheet has the same three.
+/// first event word whose bits 16 to 31 are not zero (17 to 31 in a sheet of two tracks); 0 for any other number, and
+/// zeros where nothing is refused. What the calls below return of a sheet has the same three.
 #[repr(C)]
 #[derive(Clone, Copy, Debug, Default, PartialEq, Eq)]
 pub struct Verdict {
@@ -137,7 +139,6 @@ mod c {
     use super::*;
 
     #[cfg_attr(target_arch = "x86_64", link(name = "lent", kind = "static"))]
-    #[cfg_attr(target_arch = "x86_64", link(name = "panel", kind = "static"))]
     extern "C" {
         pub fn desk_valid(row: *const Post, n: usize, head: Head) -> bool;
         pub fn desk_start(
@@ -155,6 +156,10 @@ mod c {
             place: u32,
             stamp: u32,
         ) -> Told;
+    }
+
+    #[cfg_attr(target_arch = "x86_64", link(name = "panel", kind = "static"))]
+    extern "C" {
         pub fn desk_check(block: *const u8, n: usize, number: u32) -> bool;
         pub fn desk_test(sheet: *const u8, n: usize) -> Verdict;
         pub fn desk_read(

@@ -1,8 +1,11 @@
 //! Each call once through the wrapper: that pointers, counts and returned structs meet the C calling convention.
+mod common;
+
+use common::{since, verdict};
 use desk::relay::{AN, JAM, KPG, RL, W241, W314};
 use desk::{
     check, event, export, import, read, start, test, valid, why, work, write, Entry, Exported,
-    Found, Head, Imported, Post, Since, Verdict, Worked, SHEET, TEXT,
+    Found, Head, Imported, Post, Verdict, Worked, SHEET, TEXT,
 };
 use model::paper::{EXAMPLE, KINDS, REGISTER};
 use model::{renew_check, short, stuck, Listed, MOST_TEXT};
@@ -154,14 +157,6 @@ fn empty_slices() {
     assert_eq!(import(REGISTER.as_bytes(), &mut []), imported(21, 0, 0));
 }
 
-fn since(number: u32, block: u32, position: u32) -> Since {
-    Since {
-        number,
-        block,
-        position,
-    }
-}
-
 #[test]
 fn since_when_the_lever_is_locked() {
     let mut sheet = [0; 1024];
@@ -171,14 +166,6 @@ fn since_when_the_lever_is_locked() {
     assert_eq!(why(&sheet, 9), since(29, 0, 0));
     sheet[600] ^= 1;
     assert_eq!(why(&sheet, 5), since(19, 1, 0));
-}
-
-fn verdict(number: u32, block: u32, position: u32) -> Verdict {
-    Verdict {
-        number,
-        block,
-        position,
-    }
 }
 
 #[test]

@@ -1,6 +1,6 @@
 //! Plain Rust beside the ledger, for figures: the model's event with all its tests, the same event on a line that is
-//! not tested, the sum of a block, the listing, since when, and a register exported and imported. The C program
-//! `figures` calls these and the ledger in one run.
+//! not tested, both on two tracks, the sum of a block, the listing, since when, and a register exported and imported.
+//! The C program `figures` calls these and the ledger in one run.
 pub mod register;
 
 use model::{Head, Post, Told};
@@ -28,6 +28,37 @@ macro_rules! event_call {
 
 event_call!(tested_event, model::event);
 event_call!(simple_event, model::event_on_valid);
+
+/// The same of two tracks.
+macro_rules! event_tracks_call {
+    ($name:ident, $event:path) => {
+        /// # Safety
+        /// `first` leads to `n` records and `second` to `m` that nothing else uses.
+        #[no_mangle]
+        // The arguments are those of the ledger's call.
+        #[allow(clippy::too_many_arguments)]
+        pub unsafe extern "C" fn $name(
+            first: *mut Post,
+            n: usize,
+            second: *mut Post,
+            m: usize,
+            circuit: u32,
+            head: Head,
+            track: u32,
+            number: u32,
+            place: u32,
+            stamp: u32,
+        ) -> Told {
+            let first = slice::from_raw_parts_mut(first, n);
+            let second = slice::from_raw_parts_mut(second, m);
+            let step = [track, number, place, stamp];
+            $event([first, second], circuit, head, step)
+        }
+    };
+}
+
+event_tracks_call!(tested_event_tracks, model::event_tracks);
+event_tracks_call!(simple_event_tracks, model::event_tracks_on_valid);
 
 /// The sum of the words of a block, round 2^32.
 ///

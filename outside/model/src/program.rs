@@ -63,13 +63,13 @@ pub fn asked(words: &[&str]) -> Option<Asked> {
 }
 
 /// What the program writes when it is asked for this and the input was read.
-pub fn wrote(asked: Asked, input: &[u8]) -> Wrote {
-    wrote_of(Forms::OneTrack, asked, input)
-}
-
-/// The same of the program that takes both forms.
 pub fn wrote_tracks(asked: Asked, input: &[u8]) -> Wrote {
     wrote_of(Forms::Both, asked, input)
+}
+
+/// The same of a program that takes sheets of one track alone, as it was before 02, item 7.
+pub fn wrote(asked: Asked, input: &[u8]) -> Wrote {
+    wrote_of(Forms::OneTrack, asked, input)
 }
 
 fn wrote_of(forms: Forms, asked: Asked, input: &[u8]) -> Wrote {
@@ -137,7 +137,7 @@ pub fn desk(words: &[&str]) -> io::Result<()> {
     if io::stdin().lock().read_to_end(&mut sheet).is_err() {
         return io::stderr().write_all(UNREAD.as_bytes());
     }
-    let Wrote { printed, said } = wrote(asked, &sheet);
+    let Wrote { printed, said } = wrote_tracks(asked, &sheet);
     io::stderr().write_all(said.as_bytes())?;
     let mut out = io::stdout().lock();
     if out.write_all(&printed).and_then(|()| out.flush()).is_err() {

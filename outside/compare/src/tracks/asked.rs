@@ -1,7 +1,7 @@
 //! What the calls on sheets of either form have come upon in a run: which word of block 0 or
 //! which bit of an event word alone was wrong, and what each call was given beside it.
 
-use model::{test_tracks, BLOCK_BYTES, TWO_TRACKS};
+use model::{test_tracks, BLOCK_BYTES, MOST_BLOCKS, TWO_TRACKS};
 
 use crate::counts::Wanted;
 use crate::sheets::{get, put, renew};
@@ -22,6 +22,9 @@ pub const OF_ALL: &[Wanted<Asked>] = &[
     ("two tracks, vibrated, good", |a| a.good_on(1)),
     ("two tracks of 2 posts, good", |a| a.good_of(2)),
     ("two tracks of 32 posts, good", |a| a.good_of(32)),
+    ("two tracks, 3,780 events, good", |a| {
+        a.is_two() && a.bytes().len() == BLOCK_BYTES * MOST_BLOCKS && a.is_good()
+    }),
     ("one track, good", |a| !a.is_two() && a.is_good()),
     ("two tracks, 18", |a| a.is_two() && a.number() == 18),
     ("two tracks, 19 for block 0", |a| a.two_gets(19, true)),

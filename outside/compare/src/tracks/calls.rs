@@ -63,7 +63,7 @@ fn read_of(random: &mut Random, sheet: Vec<u8>) -> Request {
     read_into(random, sheet, rooms.1)
 }
 
-fn read_into(random: &mut Random, sheet: Vec<u8>, by: [i64; 3]) -> Request {
+pub fn read_into(random: &mut Random, sheet: Vec<u8>, by: [i64; 3]) -> Request {
     let [words, events] = sizes(&sheet);
     let needed = [words, events, events];
     Request::Tracks(TrackRequest::Read {
@@ -86,7 +86,7 @@ pub fn working(random: &mut Random, variety: usize) -> Request {
     work_into(random, sheet, by)
 }
 
-fn work_into(random: &mut Random, sheet: Vec<u8>, by: i64) -> Request {
+pub fn work_into(random: &mut Random, sheet: Vec<u8>, by: i64) -> Request {
     Request::Tracks(TrackRequest::Work {
         out_len: about(sheet.len(), by),
         sheet,

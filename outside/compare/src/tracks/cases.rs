@@ -4,7 +4,7 @@ use crate::cases::Sort;
 use crate::desk::Library;
 use crate::run::{compare_shares, Difference};
 use crate::tracks::tally::TrackTally;
-use crate::tracks::{calls, histories, questions, rows, starts, writes};
+use crate::tracks::{calls, full, histories, of_one, questions, rows, starts, writes};
 
 /// How many of each are wanted.
 #[derive(Clone, Copy, Debug)]
@@ -14,6 +14,14 @@ pub struct Wanted {
     pub sheets: u64,
     pub questions: u64,
 }
+
+/// What the gate runs.
+pub const WHOLE: Wanted = Wanted {
+    events: 1_000_000,
+    rows: 200_000,
+    sheets: 60_000,
+    questions: 12_000,
+};
 
 /// All sorts, in the order in which they take turns.
 pub fn sorts() -> Vec<Sort> {
@@ -29,6 +37,8 @@ pub fn sorts() -> Vec<Sort> {
         Sort::each("track-writing", writes::WRITES),
         Sort::numbered("track-fields", calls::field_names(), calls::bad_field),
         Sort::numbered("track-questions", questions::names(), questions::question),
+        Sort::numbered("track-of-one", of_one::names(), of_one::given),
+        Sort::each("track-full", full::FULL),
     ]
 }
 
@@ -52,6 +62,8 @@ pub fn shares(wanted: Wanted) -> Vec<u64> {
         sheets / 4,
         sheets / 2,
         questions,
+        sheets / 4,
+        sheets.div_ceil(1000),
     ]
 }
 

@@ -1,10 +1,13 @@
 //! Runs of the working program on sheets of either form: the listing, `work`, `why` and `export`.
 
+use std::io;
+
 use model::program::{asked, wrote_tracks, Wrote};
-use model::{both, Entry, TWO_TRACKS};
+use model::{both, Entry, MOST_EVENTS, TWO_TRACKS};
 
 use crate::counts::{Counts, Wanted};
-use crate::program::{asked_of, Asked};
+use crate::program::{asked_of, some_given, Asked};
+use crate::ran::{compared, Given, Ran};
 use crate::random::Random;
 use crate::request::Request;
 use crate::tracks::request::TrackRequest;
@@ -13,6 +16,9 @@ use crate::tracks::{damage, questions};
 
 /// The sorts of random runs in the program's plan have the numbers from 100 on.
 const SORT: u64 = 107;
+
+/// What such a run is named by, with a colon and its index.
+pub const NAME: &str = "desk-tracks";
 
 /// By turns each word; for each, by turns each kind of sheet or of question.
 pub fn random_run(random: &mut Random, index: u64) -> Asked {
@@ -42,7 +48,8 @@ pub struct Fixed {
     pub wrote: Wrote,
 }
 
-/// Our example on both circuits: listed, worked, asked about and exported.
+/// Our example on both circuits, and sheets as long as one can be: listed, worked, asked about
+/// and exported.
 pub fn fixed_runs() -> Vec<Fixed> {
     let mut runs = Vec::new();
     for (circuit, text) in [(0, both::POLARISED), (1, both::VIBRATED)] {
@@ -64,7 +71,53 @@ pub fn fixed_runs() -> Vec<Fixed> {
             add(&words, &right, Wrote::printing(line));
         }
     }
+    runs.extend(long_runs());
     runs
+}
+
+/// 3,780 events at 32 posts on both tracks, whose lines are as long as any: each button freed
+/// that is not stuck. Then an announcement, and the last event is refused for it.
+fn long_sheet() -> TrackSheet {
+    let mut kinds = vec![20; 32];
+    (kinds[0], kinds[31]) = (0, 17);
+    let mut sheet = TrackSheet {
+        form: TWO_TRACKS,
+        table: [&kinds[..], &kinds, &[0]].concat(),
+        stamp: 0,
+        events: vec![[12, 31, 31, u32::MAX >> 1]; MOST_EVENTS],
+        tracks: (0..MOST_EVENTS as u32).map(|at| at % 2).collect(),
+    };
+    sheet.events[MOST_EVENTS - 3][..2].copy_from_slice(&[5, 30]);
+    sheet.events[MOST_EVENTS - 1][..2].copy_from_slice(&[1, 30]);
+    sheet
+}
+
+fn long_listing() -> String {
+    let mut lines: String = (1..=3777)
+        .map(|at| format!("{at} 12 31 23 {}\n", (at - 1) % 2))
+        .collect();
+    lines += "3778 5 30 0 1\n3779 12 31 23 0\n3780 1 30 8 1\n";
+    for (track, section) in (0..62).map(|line| (line / 31, line % 31)) {
+        let sent = u32::from((track, section) == (1, 30));
+        lines += &format!("S {section} {sent} 0 0 0 0 0 0 0 {sent} {track}\n");
+    }
+    lines
+}
+
+fn long_runs() -> [Fixed; 4] {
+    let sheet = long_sheet();
+    let (given, right) = (sheet.bytes(), sheet.worked().bytes());
+    let (printed, said) = (right.clone(), String::new());
+    let run = |words: &[&str], input: &[u8], wrote| Fixed {
+        asked: asked_of("3,780 events of two tracks", words, input.to_vec()),
+        wrote,
+    };
+    [
+        run(&[], &given, Wrote::printing(&long_listing())),
+        run(&["work"], &given, Wrote { printed, said }),
+        run(&["why", "3780"], &right, Wrote::printing("3778 5 30 0 1\n")),
+        run(&["export"], &right, Wrote::saying("refused 20 0\n")),
+    ]
 }
 
 /// The sheet of our example with these events.
@@ -173,44 +226,46 @@ impl Run {
     }
 }
 
-/// The working program as something to ask: its words and its input.
-pub type Program<'a> = &'a mut dyn FnMut(&[&str], &[u8]) -> Wrote;
+/// The working program as something to ask: its words, its input and how that is given.
+pub type Program<'a> = &'a mut dyn FnMut(&[&str], &[u8], Given) -> io::Result<Ran>;
 
-/// Compares the program with the model on the fixed runs; the first difference if there is one.
-pub fn compare_fixed(program: Program) -> Result<(), String> {
-    for Fixed { asked, wrote } in fixed_runs() {
-        check(asked, wrote, program)?;
+/// Compares the program with the model on the fixed runs: how many there are, or the first
+/// difference.
+pub fn compare_fixed(program: Program) -> Result<usize, String> {
+    let runs = fixed_runs();
+    let count = runs.len();
+    for Fixed { asked, wrote } in runs {
+        check(asked, wrote, Given::AtOnce, program)?;
     }
-    Ok(())
+    Ok(count)
 }
 
 /// The same on so many random ones: what came up, or the first difference.
 pub fn compare_random(seed: u64, count: u64, program: Program) -> Result<Counts<Run>, String> {
     let mut seen = Counts::new("runs on sheets of either form", RUNS);
     for index in 0..count {
-        let mut random = Random::of_case(seed, SORT, index);
-        let run = random_run(&mut random, index);
-        let words: Vec<&str> = run.words.iter().map(String::as_str).collect();
-        let right = wrote_tracks(asked(&words).ok_or("a wrong word")?, &run.input);
-        let named = |text| format!("desk-tracks:{index} (seed {seed}), {text}");
-        seen.add(&check(run, right, program).map_err(named)?);
+        seen.add(&compare_one(seed, index, program)?);
     }
     Ok(seen)
 }
 
-fn check(asked: Asked, right: Wrote, program: Program) -> Result<Run, String> {
-    let words: Vec<&str> = asked.words.iter().map(String::as_str).collect();
-    let wrote = program(&words, &asked.input);
-    if wrote == right {
-        return Ok(Run { asked, wrote });
-    }
-    let (gave, expects) = (told(&wrote), told(&right));
-    let name = &asked.name;
-    Err(format!(
-        "\"{name}\", words {words:?}:\n  gave {gave}\n  the model expects {expects}"
-    ))
+/// The same on one of them.
+pub fn compare_one(seed: u64, index: u64, program: Program) -> Result<Run, String> {
+    let mut random = Random::of_case(seed, SORT, index);
+    let run = random_run(&mut random, index);
+    let given = some_given(&mut random, run.input.len());
+    let words: Vec<&str> = run.words.iter().map(String::as_str).collect();
+    let right = wrote_tracks(asked(&words).ok_or("a wrong word")?, &run.input);
+    let named = |text| format!("{NAME}:{index} (seed {seed}), {text}");
+    check(run, right, given, program).map_err(named)
 }
 
-fn told(Wrote { printed, said }: &Wrote) -> String {
-    format!("\"{}\" and {said:?}", printed.escape_ascii())
+fn check(asked: Asked, right: Wrote, given: Given, program: Program) -> Result<Run, String> {
+    let words: Vec<&str> = asked.words.iter().map(String::as_str).collect();
+    let (name, bytes) = (&asked.name, asked.input.len());
+    let named = |text| format!("\"{name}\", words {words:?}, {bytes} bytes: {text}");
+    compared(program(&words, &asked.input, given), &right).map_err(named)?;
+    // What it wrote is what is right.
+    let wrote = right;
+    Ok(Run { asked, wrote })
 }

@@ -2,12 +2,13 @@
 //! altered one or both, under other circuits and under heads near the limit.
 
 use model::circuit::{POLARISED, VIBRATED};
-use model::{TrackStep, COUNT_LIMIT};
+use model::{Head, TrackStep, COUNT_LIMIT};
 
 use crate::alterations::*;
 use crate::histories::{lively_event, near_stamp, some_posts};
 use crate::random::Random;
 use crate::request::Request;
+use crate::rows::{odd_row, ODD_LENGTHS};
 use crate::solved::solved_of;
 use crate::tracks::request::TrackRequest;
 use crate::tracks::two::{event, some_neither, tables_of, wild, Two, CIRCUITS};
@@ -96,6 +97,7 @@ pub const PAIRS: &[Variety] = &[
         two.rows[random.below(2)].clear();
         unaltered(random, two)
     }),
+    ("both of a length that no line has", odd_length),
     ("the tracks exchanged", |random| {
         let mut two = some_lines(random);
         two.rows.reverse();
@@ -164,6 +166,25 @@ fn one_pair(random: &mut Random) -> Request {
     }
     two.circuit = random.pick(&[POLARISED, POLARISED, VIBRATED]);
     unaltered(random, two)
+}
+
+/// Two rows of 0, 1, 33 or more records, each of which would be a fresh line.
+fn odd_length(random: &mut Random) -> Request {
+    let posts = random.pick(&ODD_LENGTHS);
+    let two = Two {
+        rows: [0, 1].map(|_| odd_row(random, posts)),
+        circuit: random.pick(&CIRCUITS),
+        head: Head {
+            taken: random.small(0, 9),
+            last: random.edge_word(),
+        },
+    };
+    if random.chance(30) {
+        return Request::Tracks(TrackRequest::Valid(two));
+    }
+    let (track, place) = (random.small(0, 1), random.below(posts + 1) as u32);
+    let step = [track, random.small(1, 12), place, two.head.last];
+    event_on(two, step)
 }
 
 fn unaltered(random: &mut Random, two: Two) -> Request {

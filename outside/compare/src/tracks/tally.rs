@@ -9,6 +9,7 @@ use crate::counts::{Counts, Wanted};
 use crate::request::{Request, POST_WORDS};
 use crate::tracks::asked::{Asked, OF_ALL, OF_QUESTIONS, OF_READING, OF_WORKING, WRITTEN};
 use crate::tracks::met::{Met, MET};
+use crate::tracks::of_one::{self, Given, GIVEN};
 use crate::tracks::request::{Tables, TrackRequest};
 use crate::tracks::two::Two;
 use crate::tracks::used::{Started, Used, STARTED, USED};
@@ -38,6 +39,8 @@ pub struct TrackTally {
     pub answers: [u64; 32],
     /// Events taken, by their number and track.
     pub taken: [[u64; 2]; 13],
+    /// Events on lines that may be used, by how many posts those have.
+    pub posts: [u64; 33],
     pub met: Counts<Met>,
     pub used: Counts<Used>,
     pub started: Counts<Started>,
@@ -45,6 +48,8 @@ pub struct TrackTally {
     pub returned: [u64; 32],
     pub all: Vec<Counts<Asked>>,
     pub own: Vec<Counts<Asked>>,
+    /// Of the calls of one track.
+    pub of_one: Vec<Counts<Given>>,
 }
 
 impl TrackTally {
@@ -54,6 +59,7 @@ impl TrackTally {
             events: 0,
             answers: [0; 32],
             taken: [[0; 2]; 13],
+            posts: [0; 33],
             met: Counts::new("events of two tracks", MET),
             used: Counts::new("altered pairs of lines", USED),
             started: Counts::new("starts of two tracks", STARTED),
@@ -66,13 +72,22 @@ impl TrackTally {
                 .iter()
                 .map(|(name, own)| Counts::new(name, own))
                 .collect(),
+            of_one: of_one::CALLS
+                .iter()
+                .map(|(_, name)| Counts::new(name, GIVEN))
+                .collect(),
         }
     }
 
     pub fn add(&mut self, _: &[Sort], case: &Case) {
         self.cases[case.sort][case.variety] += 1;
-        if let Request::Tracks(request) = &case.request {
-            self.add_request(request, &case.expected);
+        match &case.request {
+            Request::Tracks(request) => self.add_request(request, &case.expected),
+            request => {
+                if let Some((call, given)) = of_one::of(request, &case.expected) {
+                    self.of_one[call].add(&given);
+                }
+            }
         }
     }
 
@@ -145,6 +160,7 @@ impl TrackTally {
             self.taken[number as usize][track as usize] += 1;
         }
         if met.answer != 1 {
+            self.posts[met.posts] += 1;
             self.met.add(&met);
         }
     }
@@ -168,20 +184,7 @@ impl TrackTally {
 
     /// What was wanted and never seen, one line for each.
     pub fn missing(&self, sorts: &[Sort]) -> Vec<String> {
-        let mut lines = Vec::new();
-        for answer in ANSWERS.into_iter().filter(|at| self.answers[*at] == 0) {
-            lines.push(format!(
-                "events of two tracks, answer {answer} was never seen"
-            ));
-        }
-        for (number, taken) in self.taken.iter().enumerate().skip(1) {
-            for (track, _) in taken.iter().enumerate().filter(|(_, count)| **count == 0) {
-                lines.push(format!(
-                    "event {number} was never taken on track {}",
-                    track + 1
-                ));
-            }
-        }
+        let mut lines = self.missing_events();
         for (sort, counts) in sorts.iter().zip(&self.cases) {
             let unseen = sort.varieties.iter().zip(counts).filter(|(_, n)| **n == 0);
             lines.extend(
@@ -198,6 +201,29 @@ impl TrackTally {
         }
         let sheets = self.all.iter().chain(&self.own);
         lines.extend(sheets.flat_map(|counts| counts.rare(u64::MAX)));
+        lines.extend(self.of_one.iter().flat_map(|counts| counts.rare(u64::MAX)));
+        lines
+    }
+
+    /// Answers, taken events and numbers of posts.
+    fn missing_events(&self) -> Vec<String> {
+        let mut lines = Vec::new();
+        for answer in ANSWERS.into_iter().filter(|at| self.answers[*at] == 0) {
+            lines.push(format!(
+                "events of two tracks, answer {answer} was never seen"
+            ));
+        }
+        for (number, taken) in self.taken.iter().enumerate().skip(1) {
+            for (track, _) in taken.iter().enumerate().filter(|(_, count)| **count == 0) {
+                lines.push(format!(
+                    "event {number} was never taken on track {}",
+                    track + 1
+                ));
+            }
+        }
+        for posts in (2..=32).filter(|posts| self.posts[*posts] == 0) {
+            lines.push(format!("no event of two tracks at {posts} posts"));
+        }
         lines
     }
 
@@ -219,6 +245,7 @@ impl TrackTally {
         }
         text += &(self.met.text() + &self.used.text() + &self.started.text());
         text.extend(self.all.iter().chain(&self.own).map(Counts::text));
+        text.extend(self.of_one.iter().map(Counts::text));
         text
     }
 }

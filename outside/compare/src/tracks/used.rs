@@ -53,6 +53,22 @@ pub const USED: &[Wanted<Used>] = &[
         !u.asked() && u.wrong() == [false, true]
     }),
     ("both lines wrong", |u| u.wrong() == [true, true]),
+    ("both lines of no record, asked", |u| {
+        u.asked() && u.both_of(|n| n == 0)
+    }),
+    ("both lines of no record, an event", |u| {
+        !u.asked() && u.both_of(|n| n == 0)
+    }),
+    ("both lines of one record", |u| u.both_of(|n| n == 1)),
+    ("both lines of 33 records, asked", |u| {
+        u.asked() && u.both_of(|n| n == 33)
+    }),
+    ("both lines of 33 records, an event", |u| {
+        !u.asked() && u.both_of(|n| n == 33)
+    }),
+    ("both lines of more than 33 records", |u| {
+        u.both_of(|n| n > 33)
+    }),
     ("5: 1,000,000 taken", |u| u.answer == Some(5)),
 ];
 
@@ -82,6 +98,12 @@ impl Used {
 
     fn only_the_circuit(&self) -> bool {
         !self.valid && self.two.circuit > 1 && self.may(0)
+    }
+
+    /// Both lines are of the same length, of which this holds.
+    fn both_of(&self, holds: fn(usize) -> bool) -> bool {
+        let [first, second] = [&self.two.rows[0], &self.two.rows[1]].map(|row| row.len());
+        first == second && holds(first)
     }
 
     fn only_lengths(&self) -> bool {
