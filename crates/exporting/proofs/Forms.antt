@@ -7,48 +7,23 @@ use mathlib.Core.List.{List}
 use native.Mathlib.Omega.{arith}
 use borrow.Author.Tests.{le-leb, lt-leb, eqb-false}
 use lib.ListN.{length}
-use Rattle.relay.proofs.Truth.{facts, least-or-below, equal-or-not}
-use Rattle.sheet.proofs.Accepts.{accepted-good, good-accepted}
+use Rattle.relay.proofs.Truth.{least-or-below, equal-or-not}
+use Rattle.sheet.proofs.Forms.{good-too, taken-too, says-most}
 use Rattle.sheet.proofs.Rooms.{form-one}
 use Rattle.sheet.specs.Layout.{oneTrack, twoTracks}
 use Rattle.sheet.specs.Reading.{formIn, formOk, headOk, firstBad, blocksIn, verdictUpTo, verdictOf, accepted}
 use Rattle.exporting.specs.Exporting.{readingOf}
 
 module _ (s : List ℕ) where
-  -- a good sheet stays good where sheets of more or of fewer tracks are taken, its own among them
-  good-too : (most other : ℕ) → formIn s ≤ other → verdictUpTo most s .number ≡ 0 → verdictUpTo other s .number ≡ 0
-  unfolding formOk
-  good-too most other h z =
-      let g = accepted-good most s z in
-      let f = simp facts at (g .first) in
-      good-accepted other s (record {
-        some = g .some;
-        most = g .most;
-        long = g .long;
-        sums = g .sums;
-        first = rw (le-leb 1 (formIn s) (f .0), le-leb (formIn s) other h) refl;
-        table = g .table;
-        rest = g .rest;
-        few = g .few;
-        many = g .many;
-        full = g .full;
-        fields = g .fields;
-        zero = g .zero;
-      })
-
-  form-most : (most : ℕ) → verdictUpTo most s .number ≡ 0 → formIn s ≤ most
-  unfolding formOk
-  form-most most z = simp facts at (accepted-good most s z .first) .1
-
   -- a good sheet of one track is not of two, and is one that export takes; and of those that it takes, one that is not of two is that
   pub not-two : verdictOf s .number ≡ 0 → formIn s ≡ twoTracks → ⊥
   not-two z e = omega (arith, e, form-one s z)
 
   pub good-one : verdictOf s .number ≡ 0 → readingOf s .number ≡ 0
-  good-one z = good-too oneTrack twoTracks (omega (arith, form-one s z)) z
+  good-one z = taken-too s z
 
   pub one-good : readingOf s .number ≡ 0 → (formIn s ≡ twoTracks → ⊥) → verdictOf s .number ≡ 0
-  one-good z n = good-too twoTracks oneTrack (let h = form-most twoTracks z in omega arith) z
+  one-good z n = good-too s twoTracks oneTrack (let h = says-most s twoTracks z in omega arith) z
 
   -- of those that export takes, one that is not good as a sheet of one track is of two
   pub two-left : readingOf s .number ≡ 0 → accepted s ≡ false → formIn s ≡ twoTracks

@@ -32,12 +32,12 @@ use Rattle.sheet.specs.Entry.{numberOf, postOf, stampOf}
 use Rattle.sheet.specs.Layout.{oneTrack}
 use Rattle.sheet.specs.Reading.{blocksIn, verdictOf, decode, decodeTracked}
 use Rattle.working.specs.Run.{begun, next, run, answered, marked}
-use Rattle.working.specs.Working.{worked, workVerdict, workOf, sectionNumbers}
+use Rattle.working.specs.Working.{firstAnswered, worked, workVerdict, workOf, sectionNumbers}
 use Rattle.working.proofs.Both.{marked-long, marked-at}
 use Rattle.working.proofs.Named.{Unanswered, none}
 use Rattle.working.proofs.OneTrack.{one, events-one, end-one, worked-one}
 use Rattle.working.proofs.Steps.{answered-long}
-use Rattle.working.proofs.Taken.{taken-too}
+use Rattle.sheet.proofs.Forms.{taken-too}
 use Rattle.working.proofs.Twice.{answered-at}
 use Rattle.working.proofs.Works.{said-table}
 use Rattle.listing.specs.Lines.{trackNamed, sectionLine}
@@ -195,7 +195,7 @@ module _ (s : List ℕ) (z : verdictOf s .number ≡ 0) where
       let ts = decodeTracked s .tracks in
       let b = begun (t .kinds) (t .stamp) in
       let es = worked t .events in
-      let fresh = ltb-false _ _ (none oneTrack s z u) in
+      let fresh = ltb-false (firstAnswered (t .events)) (length (t .events)) (none oneTrack s z u) in
       let long : length (marked es ts) ≡ length (t .events) = marked-long es ts ∙ answered-long b (t .events) in
       let e : joined (eventText oneTrack (marked es ts)) (length (marked es ts)) ≡ joined (eventSaid t) (length (t .events)) =
       rw long

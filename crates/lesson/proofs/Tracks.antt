@@ -243,8 +243,8 @@ module _ (s : List ℕ) (z : verdictUpTo twoTracks s .number ≡ 0) (two : decod
   abbrev t : Tracked
   t = decodeTracked s
 
-  abbrev xs : List (List ℕ)
-  xs = marked (t .events) (t .tracks)
+  abbrev marks : List (List ℕ)
+  marks = marked (t .events) (t .tracks)
 
   abbrev line : Bool → List Post
   line b = ofTrack b (endOf t .first) (endOf t .second)
@@ -252,8 +252,8 @@ module _ (s : List ℕ) (z : verdictUpTo twoTracks s .number ≡ 0) (two : decod
   -- each line of posts is as long as its table
   line-long : (b : Bool) → length (line b) ≡ length (kindsOn b t)
   unfolding begunBy
-  line-long false = run-long (t .form) (circuitOf (t .table)) (begunBy (t .form) (t .table) (t .stamp)) xs .0 ∙ rw two (length-fresh (firstKinds (t .table)))
-  line-long true = run-long (t .form) (circuitOf (t .table)) (begunBy (t .form) (t .table) (t .stamp)) xs .1 ∙ rw two (length-fresh (secondKinds (t .table)))
+  line-long false = run-long (t .form) (circuitOf (t .table)) (begunBy (t .form) (t .table) (t .stamp)) marks .0 ∙ rw two (length-fresh (firstKinds (t .table)))
+  line-long true = run-long (t .form) (circuitOf (t .table)) (begunBy (t .form) (t .table) (t .stamp)) marks .1 ∙ rw two (length-fresh (secondKinds (t .table)))
 
   sections-say : (b : Bool) → joined (sectionText (trackNamed (t .form) (one b)) (line b)) (length (line b) - 1) ≡ joined (sectionSaidOn b t) (length (kindsOn b t) - 1)
   sections-say b =
@@ -268,7 +268,7 @@ module _ (s : List ℕ) (z : verdictUpTo twoTracks s .number ≡ 0) (two : decod
       rw (marked-long ws (t .tracks) ∙ long)
       (joined-same (eventText (t .form) (marked ws (t .tracks))) (eventSaidOn t) (length (t .events)) (λ i h.
       let track : trackOf (eventOn t i) ≡ getD (t .tracks) i 0 = ap trackOf (marked-at (t .events) (t .tracks) i h) in
-      rw (marked-at ws (t .tracks) i (omega (arith, h, long)), said-at (goes-by (t .form) (circuitOf (t .table))) (begunBy (t .form) (t .table) (t .stamp)) xs i (omega (arith, h, marked-long (t .events) (t .tracks))), track) refl))
+      rw (marked-at ws (t .tracks) i (omega (arith, h, long)), said-at (goes-by (t .form) (circuitOf (t .table))) (begunBy (t .form) (t .table) (t .stamp)) marks i (omega (arith, h, marked-long (t .events) (t .tracks))), track) refl))
 
   pub listing-says : answerTo s .number ≡ 0 → listingOf s ≡ saidOn t
   unfolding saidOn

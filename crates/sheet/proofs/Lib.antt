@@ -10,6 +10,7 @@ pub mod Contents
 pub mod Damage
 pub mod Fields
 pub mod First
+pub mod Forms
 pub mod Given
 pub mod Good
 pub mod Laid

@@ -37,7 +37,7 @@ use Rattle.why.proofs.Made.{Made, Always, only-one, not-always, last-ma
 use Rattle.why.proofs.Right.{right-iff, wrong-at, wrong-some}
 use Rattle.why.proofs.Says.{Says, says}
 use Rattle.why.proofs.Start.{at-start}
-use Rattle.working.proofs.Taken.{form-two, on-track}
+use Rattle.sheet.proofs.Forms.{form-two, on-track}
 use Rattle.why.proofs.Track.{ranAt, ran-at, line-cases, refused-same, own-answer, answered-next}
 
 -- ---- what may be answered

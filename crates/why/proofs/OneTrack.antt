@@ -10,7 +10,7 @@ use Rattle.sheet.specs.Reading.{verdictOf, decode, decodeTracked}
 use Rattle.sheet.specs.Sheet.{circuitOf}
 use Rattle.tracks.specs.Circuit.{beside}
 use Rattle.working.proofs.OneTrack.{one-run, one, table-one, stamp-one, events-one}
-use Rattle.working.proofs.Taken.{on-track}
+use Rattle.sheet.proofs.Forms.{on-track}
 use Rattle.working.specs.Run.{begun, run, begunBy}
 use Rattle.why.specs.Why.{trackAt, stateAfter}
 

@@ -31,7 +31,7 @@ use Rattle.working.specs.Working.{workedTracked}
 use Rattle.why.specs.Why.{noSuchRefusal, begunOf, rightAnswers, asWorked, asked, sinceWhen, sinceUpTo}
 use Rattle.why.specs.declared.Since.{Since}
 use Rattle.why.proofs.Asked.{since-in, since-not-asked}
-use Rattle.working.proofs.Taken.{form-most}
+use Rattle.sheet.proofs.Forms.{form-most}
 
 -- ---- events, each with its track
 module _ (form c : ℕ) where

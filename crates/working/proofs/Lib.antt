@@ -10,4 +10,3 @@ pub mod One
 pub mod Named
 pub mod Paper
 pub mod OneTrack
-pub mod Taken

@@ -1,5 +1,6 @@
 -- `desk::work_sheet` is safe: a sheet that is worked is accepted, and no longer than the room for the worked one.
 use mathlib.Core.Path.{sym, ap, _∙_}
+use mathlib.Core.List.{[]}
 use native.Mathlib.Omega.{arith}
 use borrow.Author.Needs.{needs}
 use lib.Seq.{length-take-le}
@@ -46,7 +47,7 @@ returns-2 c = search needs
 array-share-prefix-out : tie.Need-array-share-prefix-out
 array-share-prefix-out c =
     let w = c .before .before .before in
-    let z = accepts _ _ _ (sym (ap (λ (x : WorkedTracks). x .number) (w .work-tracks .ensures .0)) ∙ c .if1 .left) in
+    let z = accepts _ [] _ (sym (ap (λ (x : WorkedTracks). x .number) (w .work-tracks .ensures .0)) ∙ c .if1 .left) in
     omega (arith, not-long twoTracks _ z, slice-aggregate-work-tracks (w .before .before), slice-aggregate-work-tracks-2 (w .before), w .work-tracks .kept .1 .0)
 
 slice-aggregate-print : tie.Need-slice-aggregate-print

@@ -6,7 +6,7 @@ use Rattle.relay.proofs.Tests.{tests}
 use Rattle.sheet.specs.Layout.{oneTrack, twoTracks}
 use Rattle.sheet.specs.declared.Verdict.{Verdict}
 use Rattle.why.proofs.Asked.{since-unread, since-read}
-use Rattle.working.proofs.Taken.{taken-too}
+use Rattle.sheet.proofs.Forms.{taken-too}
 use Rattle.why.proofs.since_when.Statement.{statement}
 use Rattle.why.proofs.since_when.Tie as tie
 
