@@ -106,7 +106,7 @@ fn export_sheet() {
     let Reading::Whole(n) = read_input(&mut s) else {
         return;
     };
-    let done = exporting::export(&s[..n], &mut page);
+    let done = exporting::export_tracks(&s[..n], &mut page);
     if done.number != 0 {
         tell_refused(done.number, done.block as u64, done.position);
         return;

@@ -5,30 +5,22 @@ use mathlib.Core.Path.{_≡_, refl, sym, ap, _∙_}
 use mathlib.Core.List.{List, _++_}
 use native.Mathlib.Omega.{arith}
 use borrow.Author.Tests.{eq-eqb, ne-eqb, eqb-true, eqb-false}
-use lib.Dec.{eqb, ltb}
+use lib.Dec.{ltb}
 use lib.ListN.{length, take, drop}
 use lib.Seq.{take-at}
 use Rattle.relay.proofs.Truth.{split}
-use Rattle.sheet.specs.Layout.{twoTracks}
-use Rattle.sheet.specs.Reading.{formIn, verdictOf, decode}
+use Rattle.sheet.specs.Reading.{accepted, verdictOf, decode}
 use Rattle.register.specs.Register.{RightText, exported}
 use Rattle.register.proofs.Import.{export-right}
-use Rattle.exporting.specs.Exporting.{textFor, done, readingOf, exportOf, exportInto, Exports}
+use Rattle.exporting.specs.Exporting.{textFor, done, exportOf, exportInto, Exports}
 use Rattle.exporting.specs.declared.Exported.{Exported}
-use Rattle.exporting.proofs.Forms.{one-good}
 
--- a returned 0: the sheet was accepted, as one of one track, and the text fits
+-- a returned 0: the sheet was accepted, and the text fits
 well : (s : List ℕ) (m : ℕ) → exportOf s m .number ≡ 0 → (verdictOf s .number ≡ 0) × (exportOf s m ≡ done (length (textFor s)))
 unfolding exportOf
 well s m =
-    split (eqb (readingOf s .number) 0)
-    (λ a.
-    split (eqb (formIn s) twoTracks)
-    (λ t. rw (a, t) (λ z. absurd (omega arith)))
-    (λ t.
-    split (ltb m (length (textFor s)))
-    (λ b. rw (a, t, b) (λ z. absurd (omega arith)))
-    (λ b. rw (a, t, b) (λ z. (one-good s (eqb-true _ _ a) (eqb-false _ _ t), refl)))))
+    split (accepted s)
+    (λ a. split (ltb m (length (textFor s))) (λ b. rw (a, b) (λ z. absurd (omega arith))) (λ b. rw (a, b) (λ z. (eqb-true _ _ a, refl))))
     (λ a. rw a (λ z. absurd (eqb-false _ _ a z)))
 
 module _ (s : List ℕ) (r : Exported) (out out′ : List ℕ) (e : Exports s r out out′) where

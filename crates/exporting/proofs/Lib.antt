@@ -1,9 +1,9 @@
 pub mod Joins
 pub mod Marks
 pub mod Registers
-pub mod Forms
 pub mod Outcomes
 pub mod Page
 pub mod One
-pub mod Refusals
 pub mod Calls
+pub mod Forms
+pub mod Tracks

@@ -4,13 +4,13 @@ use Prim.Native.Nat.{ℕ, _+_, _*_, _^_, _≤_, _<_}
 use mathlib.Core.Path.{_≡_, ap, _∙_}
 use mathlib.Core.List.{List}
 use native.Mathlib.Omega.{arith}
-use borrow.Author.Tests.{eq-eqb, ne-eqb, le-ltb}
+use borrow.Author.Tests.{eq-eqb, le-ltb}
 use lib.ListN.{length, getD, length-append}
 use Rattle.digits.specs.Texts.{joined}
 use Rattle.digits.proofs.Value.{digits-within}
-use Rattle.sheet.specs.Layout.{oneTrack, twoTracks}
+use Rattle.sheet.specs.Layout.{oneTrack}
 use Rattle.sheet.specs.Entry.{numberOf, postOf, answerOf, stampOf}
-use Rattle.sheet.specs.Reading.{formIn, verdictOf, blocksIn, decode}
+use Rattle.sheet.specs.Reading.{verdictOf, blocksIn, decode}
 use Rattle.sheet.specs.Sheet.{Sheet, eventAt}
 use Rattle.sheet.proofs.Accepts.{accepted-good}
 use Rattle.sheet.proofs.Bytes.{Below}
@@ -18,9 +18,8 @@ use Rattle.sheet.proofs.Rooms.{posts-few, kinds-long}
 use Rattle.sheet.proofs.TripRead.{decoded-writable}
 use Rattle.sheet.proofs.Writable.{Writable, in-fields}
 use Rattle.register.proofs.Sheets.{table-small}
-use Rattle.exporting.specs.Exporting.{textFor, done, readingOf, exportOf}
+use Rattle.exporting.specs.Exporting.{textFor, done, exportOf}
 use Rattle.exporting.specs.Fields.{field, count, eventFields, textAt}
-use Rattle.exporting.proofs.Forms.{good-one, not-two}
 use Rattle.exporting.proofs.Joins.{joined-none, joined-long, joined-split, joined-within}
 use Rattle.exporting.proofs.Marks.{field-none, field-some, text-long, register-long}
 use Rattle.exporting.proofs.Registers.{at-start, at-kind, at-event, exported-is}
@@ -95,4 +94,4 @@ module _ (s : List ℕ) (small : Below 256 s) (z : verdictOf s .number ≡ 0) wh
   -- so a page is never too short
   pub page-enough : (m : ℕ) → page ≤ m → exportOf s m ≡ done (length (textFor s))
   unfolding exportOf
-  page-enough m h = rw (eq-eqb (readingOf s .number) 0 (good-one s z), ne-eqb (formIn s) twoTracks (not-two s z), le-ltb m (length (textFor s)) (omega (arith, page-fits)))
+  page-enough m h = rw (eq-eqb (verdictOf s .number) 0 z, le-ltb m (length (textFor s)) (omega (arith, page-fits)))

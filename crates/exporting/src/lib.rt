@@ -5,7 +5,7 @@ ghost use lib.ListN.{length};
 ghost use Rattle.digits.specs.Texts.{Put};
 ghost use Rattle.sheet.specs.Reading.{verdictAt};
 ghost use Rattle.exporting.specs.Fields.{field, ended, textOf, count, fieldsAt, registerOf, Few};
-ghost use Rattle.exporting.specs.Exporting.{refused, Exports};
+ghost use Rattle.exporting.specs.Exporting.{refused, Exports, ExportsTracks};
 use sheet::layout::CONTENTS_WRONG;
 use sheet::layout::MOST_ENTRIES;
 use sheet::layout::ROOM_SHORT;
@@ -181,19 +181,15 @@ fn refuse(number: u32, block: u32, position: u32) -> Exported
     }
 }
 
-// The register of the sheet to the front of `out`. A sheet of two tracks is refused, if it is good, as one of wrong contents. A refusal leaves `out` as it was.
+// The register of the sheet to the front of `out`. A refusal leaves `out` as it was.
 pub fn export(s: &[u8], out: &mut [u8]) -> Exported
     ensures { λ r. ⌜ Exports (now (s .entry)) r (now (out .entry)) (now (out .exit)) ⌝ }
 {
-    let v = lent_sheet::test_tracks(s);
-    if v.number != 0 {
-        return refuse(v.number, v.block, v.position);
-    }
     let mut kinds = [0u32; 32];
     let mut events = [[0u32; 4]; MOST_ENTRIES];
     let found = lent_sheet::read(s, &mut kinds, &mut events);
     if found.number != 0 {
-        return refuse(CONTENTS_WRONG, 0, 0);
+        return refuse(found.number, found.block, found.position);
     }
     let n = found.posts as usize;
     let m = found.events as usize;
@@ -210,4 +206,19 @@ pub fn export(s: &[u8], out: &mut [u8]) -> Exported
         position: 0,
         bytes: size,
     }
+}
+
+// The same where sheets of one track and of two are read: one of two tracks, which has no register, is refused.
+pub fn export_tracks(s: &[u8], out: &mut [u8]) -> Exported
+    ensures { λ r. ⌜ ExportsTracks (now (s .entry)) r (now (out .entry)) (now (out .exit)) ⌝ }
+{
+    let v = lent_sheet::test_tracks(s);
+    if v.number != 0 {
+        return refuse(v.number, v.block, v.position);
+    }
+    let one = lent_sheet::test(s);
+    if one.number != 0 {
+        return refuse(CONTENTS_WRONG, 0, 0);
+    }
+    export(s, out)
 }

@@ -1,6 +1,6 @@
 -- `desk::export_sheet` is safe: no more is written than there is room for.
 -- Assumes nothing.
-use Rattle.exporting.proofs.Outcomes.{export-within}
+use Rattle.exporting.proofs.Tracks.{tracks-within}
 use mathlib.Core.Path.{sym}
 use native.Mathlib.Omega.{arith}
 use lib.Seq.{length-take-le}
@@ -23,14 +23,14 @@ returns c = search tests
 array-share-prefix-s : tie.Need-array-share-prefix-s
 array-share-prefix-s c = rw (c .before .n .given .1) at (c .before .before .before .read-input .ensures)
 
-slice-aggregate-export : tie.Need-slice-aggregate-export
-slice-aggregate-export c = sym (length-take-le _ _ (array-share-prefix-s (c .before)))
+slice-aggregate-export-tracks : tie.Need-slice-aggregate-export-tracks
+slice-aggregate-export-tracks c = sym (length-take-le _ _ (array-share-prefix-s (c .before)))
 
-slice-aggregate-export-2 : tie.Need-slice-aggregate-export-2
-slice-aggregate-export-2 c = search tests
+slice-aggregate-export-tracks-2 : tie.Need-slice-aggregate-export-tracks-2
+slice-aggregate-export-tracks-2 c = search tests
 
-export-requires : tie.Need-export-requires
-export-requires c κs = search tests
+export-tracks-requires : tie.Need-export-tracks-requires
+export-tracks-requires c κs = search tests
 
 cast-tell-refused : tie.Need-cast-tell-refused
 cast-tell-refused c = search tests
@@ -42,7 +42,7 @@ returns-2 : tie.Need-returns-2
 returns-2 c = search tests
 
 array-share-prefix-page : tie.Need-array-share-prefix-page
-array-share-prefix-page c = let w = c .before .before .before .export in omega (arith, export-within _ _ _ _ (w .ensures), w .kept .1 .0)
+array-share-prefix-page c = let w = c .before .before .before .export-tracks in omega (arith, tracks-within _ _ _ _ (w .ensures), w .kept .1 .0)
 
 slice-aggregate-print : tie.Need-slice-aggregate-print
 slice-aggregate-print c = sym (length-take-le _ _ (array-share-prefix-page (c .before)))
@@ -62,9 +62,9 @@ export-sheet-spec =
     enum-told
     returns
     array-share-prefix-s
-    slice-aggregate-export
-    slice-aggregate-export-2
-    export-requires
+    slice-aggregate-export-tracks
+    slice-aggregate-export-tracks-2
+    export-tracks-requires
     cast-tell-refused
     tell-refused-requires
     returns-2
