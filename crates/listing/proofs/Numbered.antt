@@ -1,5 +1,5 @@
 -- The listing line by line: line i of the events is event i's, at position i + 1, and line i of the sections is section i's.
--- One event or section more is one line more.
+-- One event or section more is one line more. The fields of an event's line are in the order of the rule, and the last is the track's, where there are two.
 -- Assumes nothing.
 use Prim.Native.Nat.{ℕ, zero, suc, _+_, _-_, _≤_, _<_}
 use mathlib.Core.Path.{_≡_, refl, sym, ap, _∙_}
@@ -11,13 +11,15 @@ use lib.ListN.{length, getD, take}
 use lib.Seq.{take-all, take-length}
 use Rattle.relay.specs.Posts.{at}
 use Rattle.relay.specs.declared.Post.{Post}
+use Rattle.sheet.specs.Layout.{oneTrack, twoTracks}
 use Rattle.sheet.specs.Reading.{decodeTracked}
 use Rattle.sheet.specs.Sheet.{Tracked}
 use Rattle.tracks.specs.Circuit.{trackOne, trackTwo}
 use Rattle.working.specs.Run.{marked}
 use Rattle.working.specs.Working.{endOf, workedTracked}
-use Rattle.listing.specs.Lines.{trackNamed}
+use Rattle.listing.specs.Lines.{space, lineFeed, spaced, trackNamed, eventLine}
 use Rattle.listing.specs.Listing.{eventLines, sectionLines, linesOf, answerTo, listingOf}
+use Rattle.digits.specs.Digits.{digits}
 use Rattle.digits.specs.Texts.{joined}
 use Rattle.listing.proofs.Listed.{lineOfEvent, lineOfSection, events-none, events-more, sections-first, sections-more}
 
@@ -26,6 +28,24 @@ pub joined-same : (f g : ℕ → List ℕ) (n : ℕ) → ((i : ℕ) → i < n �
 unfolding joined
 joined-same f g zero e = refl
 joined-same f g (suc n) e = rw (joined-same f g n (λ i h. e i (omega arith)), e n (omega arith))
+
+-- ---- the fields of a line
+-- 01: 'position from 1, event, post, answer. .. Single spaces, each line ended by a line feed.'
+pub event-says : (position event post answer : ℕ) (track : List ℕ)
+    → eventLine position event post answer track
+    ≡ digits position ++ (space ∷ (digits event ++ (space ∷ (digits post ++ (space ∷ (digits answer ++ spaced track))))) ++ (lineFeed ∷ []))
+unfolding eventLine spaced
+event-says position event post answer track = refl
+
+-- 02, item 7, of a two-track sheet: 'Its listing lines get that bit as a last field'
+pub two-named : (track : ℕ) → trackNamed twoTracks track ≡ track ∷ []
+unfolding trackNamed
+two-named track = refl
+
+-- and the lines of a sheet of one track are as they were
+pub one-named : (track : ℕ) → trackNamed oneTrack track ≡ []
+unfolding trackNamed
+one-named track = refl
 
 -- ---- events
 abbrev pub eventText : ℕ → List (List ℕ) → ℕ → List ℕ
