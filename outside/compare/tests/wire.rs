@@ -321,17 +321,8 @@ fn a_program_with_wrong_imports_is_found() {
             "[\"import\"]",
         ),
         // Records counted in 16 bits, or from 0.
-        (
-            but_for("import", "{ DESK 2>&1 >&3 | sed s/70005/4469/ >&2; } 3>&1"),
-            "\"a wrong answer\"",
-        ),
-        (
-            but_for(
-                "import",
-                "{ DESK 2>&1 >&3 | sed 's/28 1$/28 0/' >&2; } 3>&1",
-            ),
-            "import: nothing",
-        ),
+        (said_so("import", "s/70005/4469/"), "\"a wrong answer\""),
+        (said_so("import", "s/28 1$/28 0/"), "import: nothing"),
     ]);
 }
 
