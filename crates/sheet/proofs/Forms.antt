@@ -1,19 +1,19 @@
--- A good sheet where sheets of so many tracks are taken: its form, the tracks of its events, and that it is good wherever its own form is taken.
+-- A good sheet where sheets of so many tracks are taken: its form, the tracks of its events, and that it is good wherever its own form is taken. And of any sheet, good or not, that does not say 2: that it is read as one of one track.
 -- Assumes nothing.
-use Prim.Native.Nat.{ℕ, _≤_, _<_}
+use Prim.Native.Nat.{ℕ, zero, suc, _+_, _≤_, _<_}
 use mathlib.Core.Path.{_≡_, refl}
 use mathlib.Core.List.{List}
 use native.Mathlib.Omega.{arith}
-use borrow.Author.Tests.{le-leb}
+use borrow.Author.Tests.{le-leb, lt-leb}
 use lib.Dec.{eqb}
 use lib.ListN.{length, getD}
-use Rattle.relay.proofs.Truth.{facts, and-facts}
+use Rattle.relay.proofs.Truth.{facts, and-facts, least-or-below}
 use Rattle.sheet.proofs.Accepts.{accepted-good, good-accepted}
 use Rattle.sheet.proofs.Fields.{below-at}
 use Rattle.sheet.proofs.Rooms.{form-one}
 use Rattle.sheet.proofs.TripRead.{form-is, said-form, said-tracks}
 use Rattle.sheet.specs.Layout.{oneTrack, twoTracks}
-use Rattle.sheet.specs.Reading.{formIn, formOk, blocksIn, verdictUpTo, decodeTracked}
+use Rattle.sheet.specs.Reading.{formIn, formOk, headOk, firstBad, blocksIn, verdictUpTo, verdictOf, decodeTracked}
 use Rattle.sheet.specs.Writing.{allBelow, tracksFit}
 
 -- a good sheet stays good where sheets of more or of fewer tracks are taken, its own among them
@@ -41,6 +41,26 @@ good-too s most other h z =
 pub taken-too : (s : List ℕ) → verdictUpTo oneTrack s .number ≡ 0 → verdictUpTo twoTracks s .number ≡ 0
 taken-too s z = good-too s oneTrack twoTracks (omega (arith, form-one s z)) z
 
+-- ---- a sheet that does not say that it is of two tracks
+-- word 0 of block 0 is tested alike, unless it is a 2
+same-form : (s : List ℕ) → (formIn s ≡ twoTracks → ⊥) → formOk twoTracks (formIn s) ≡ formOk oneTrack (formIn s)
+unfolding formOk
+same-form s n =
+    least-or-below (formIn s) 1
+    (λ h. rw (le-leb (formIn s) 1 h, le-leb (formIn s) 2 (omega arith)))
+    (λ h. rw (lt-leb (formIn s) 1 h, lt-leb (formIn s) 2 (omega arith)))
+
+same-bad : (s : List ℕ) → (formIn s ≡ twoTracks → ⊥) → (n b m : ℕ) → firstBad twoTracks s n b m ≡ firstBad oneTrack s n b m
+unfolding firstBad headOk
+same-bad s e n b zero = refl
+same-bad s e n b (suc m) = rw (same-form s e, same-bad s e n (b + 1) m) refl
+
+-- 'One-track calls, sheets and listings stay as they are', refused ones too: reading says of it, where two tracks are taken, what it says where one is
+pub same-reading : (s : List ℕ) → (formIn s ≡ twoTracks → ⊥) → verdictUpTo twoTracks s ≡ verdictOf s
+unfolding verdictUpTo
+same-reading s e = rw (same-bad s e (blocksIn (length s)) 0 (blocksIn (length s))) refl
+
+-- ---- a good sheet
 -- it is of no more tracks than are taken
 pub says-most : (s : List ℕ) (most : ℕ) → verdictUpTo most s .number ≡ 0 → formIn s ≤ most
 unfolding formOk

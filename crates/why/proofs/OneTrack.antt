@@ -5,14 +5,19 @@ use mathlib.Core.Path.{_≡_, refl, _∙_}
 use mathlib.Core.List.{List, []}
 use native.Mathlib.Omega.{arith}
 use lib.ListN.{take}
-use Rattle.sheet.specs.Layout.{oneTrack}
-use Rattle.sheet.specs.Reading.{verdictOf, decode, decodeTracked}
+use Rattle.sheet.specs.Layout.{oneTrack, twoTracks}
+use Rattle.sheet.specs.Reading.{formIn, verdictOf, decode, decodeTracked}
 use Rattle.sheet.specs.Sheet.{circuitOf}
 use Rattle.tracks.specs.Circuit.{beside}
 use Rattle.working.proofs.OneTrack.{one-run, one, table-one, stamp-one, events-one}
-use Rattle.sheet.proofs.Forms.{on-track}
+use Rattle.sheet.proofs.Forms.{on-track, same-reading}
 use Rattle.working.specs.Run.{begun, run, begunBy}
-use Rattle.why.specs.Why.{trackAt, stateAfter}
+use Rattle.why.specs.Why.{trackAt, stateAfter, sinceUpTo, sinceOf, sinceTracksOf}
+
+-- any sheet that does not say 2, good or bad, gets the answer that it got
+pub same-since : (s : List ℕ) (k : ℕ) → (formIn s ≡ twoTracks → ⊥) → sinceTracksOf s k ≡ sinceOf s k
+unfolding sinceUpTo
+same-since s k n = rw (same-reading s n) refl
 
 module _ (s : List ℕ) (z : verdictOf s .number ≡ 0) where
   -- every event is on its one track

@@ -1,4 +1,4 @@
--- A sheet of one track among those of either form: its table, events and run are those of one track, with no line beside it.
+-- A sheet of one track among those of either form: its table, events and run are those of one track, with no line beside it. And any sheet that does not say 2 is refused as one of one track.
 -- Assumes nothing.
 use Prim.Native.Nat.{ℕ, zero, suc, _+_}
 use mathlib.Core.Path.{_≡_, refl, ap, _∙_}
@@ -7,17 +7,18 @@ use native.Mathlib.Omega.{arith}
 use lib.ListN.{take, drop}
 use Rattle.relay.specs.Line.{After}
 use Rattle.relay.specs.declared.Post.{Post}
+use Rattle.sheet.proofs.Forms.{same-reading}
 use Rattle.sheet.proofs.Rooms.{form-one}
 use Rattle.sheet.proofs.Table.{words-one}
 use Rattle.sheet.proofs.TripRead.{form-is}
 use Rattle.sheet.specs.Check.{word}
-use Rattle.sheet.specs.Layout.{oneTrack}
-use Rattle.sheet.specs.Reading.{verdictOf, decode, decodeTracked}
+use Rattle.sheet.specs.Layout.{oneTrack, twoTracks}
+use Rattle.sheet.specs.Reading.{formIn, verdictOf, decode, decodeTracked}
 use Rattle.sheet.specs.Sheet.{circuitOf}
 use Rattle.sheet.specs.Words.{tab}
 use Rattle.tracks.specs.Circuit.{beside}
 use Rattle.working.specs.Run.{begun, next, run, answered, answeredBy, marked, begunBy, nextBy, runBy, answersBy}
-use Rattle.working.specs.Working.{worked, endOf, workedTracked}
+use Rattle.working.specs.Working.{worked, endOf, workedTracked, workVerdict, workVerdictUpTo}
 
 -- ---- the run of one track, beside a line that stays
 pub one-run : (c : ℕ) (a : After) (k : List Post) (es : List (List ℕ)) (ts : List ℕ) (i : ℕ)
@@ -36,6 +37,11 @@ one-answers : (c : ℕ) (a : After) (k : List Post) (es : List (List ℕ)) (ts :
 unfolding answersBy answered marked nextBy
 one-answers c a k [] ts = refl
 one-answers c a k (e ∷ es) ts = ap (λ (l : List (List ℕ)). answeredBy e (next a e .told .answer) ∷ l) (one-answers c (next a e) k es (drop 1 ts))
+
+-- ---- any sheet that does not say 2, good or bad: what working refuses of it
+pub same-work : (s : List ℕ) (m : ℕ) → (formIn s ≡ twoTracks → ⊥) → workVerdictUpTo twoTracks s m ≡ workVerdict s m
+unfolding workVerdictUpTo
+same-work s m n = rw (same-reading s n) refl
 
 -- ---- an accepted sheet of one track
 module _ (s : List ℕ) (z : verdictOf s .number ≡ 0) where
