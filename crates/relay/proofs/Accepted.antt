@@ -17,7 +17,7 @@ use Rattle.relay.specs.Kinds.{terminus}
 use Rattle.relay.specs.Line.{head, told, After, after, last_event, numbered, names_section, present, neighbour, gate, answer_of, changed_line, event_of}
 use Rattle.relay.specs.Posts.{at}
 use Rattle.relay.specs.Relays.{An, KPg, L, RL, lever, W314, W241, up}
-use Rattle.relay.specs.Valid.{valid, most_events}
+use Rattle.relay.specs.Valid.{most_events}
 use Rattle.relay.specs.declared.Head.{Head}
 use Rattle.relay.specs.declared.Post.{Post}
 use Rattle.relay.proofs.Facts.{ValidLine, valid_iff}

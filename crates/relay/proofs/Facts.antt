@@ -88,7 +88,7 @@ word_iff k w = (
         r.no_others,
         (
           (r.origin_down, λ e. ((r.terminus_down e).0, ((r.terminus_down e).1, ((r.terminus_down e).2, (r.terminus_down e).3)))),
-          (r.held-locked, (r.pedal-blocks, (r.announcement-blocks, (r.open_reversed, r.passage-announced)))),
+          (r.held-locked, (r.pedal_blocks_lem, (r.announcement-blocks, (r.open_reversed, r.passage-announced)))),
         ),
       ),
 )

@@ -12,7 +12,6 @@ use Rattle.relay.specs.Choice.{requires}
 use Rattle.relay.specs.Kinds.{terminus, ordinary, kind_fits, kinds_fit, table_ok}
 use Rattle.relay.specs.Line.{head, fresh_line, startable, start_of, event_of}
 use Rattle.relay.specs.Posts.{fresh_word, fresh_post, at}
-use Rattle.relay.specs.Relays.{lower}
 use Rattle.relay.specs.Valid.{word_ok, stays_zero, counts_within, post_ok, section_ok, posts_ok, sections_from, sections_ok, most_events, valid}
 use Rattle.relay.specs.declared.Head.{Head}
 use Rattle.relay.specs.declared.Pair.{Pair}
@@ -23,7 +22,8 @@ use Rattle.relay.proofs.Facts.{PostOk, SectionOk, ValidLine, valid_iff, kind_iff
 use Rattle.relay.proofs.Forms.{every_kind, every-kind}
 use Rattle.relay.proofs.Frame.{Replaced, swapped, taken_replaces, neighbour-beside, neighbour-within}
 use Rattle.relay.proofs.Fresh.{length-fresh}
-use Rattle.relay.proofs.KeptPosts.{kind-small, not_terminus, Two, later, Kept, single, back, onward, keeps}
+use Rattle.relay.proofs.KeptPosts.{kind-small, not_terminus, Two, later}
+use Rattle.relay.proofs.KeptEvents.{Kept, single, back, onward, keeps}
 use Rattle.relay.proofs.Rules.{rules}
 use Rattle.relay.proofs.Truth.{facts, and_facts, requires_facts, every, equal_or_not, split}
 

@@ -3,7 +3,7 @@
 -- which events are given it, at which kinds and with which relays. It is typed from the paper's table and lists, with the paper's own numbers,
 -- and cites none of the refusals there. That the two agree stands in proofs/Given.antt.
 -- Assumes nothing.
-use Rattle.std.specs.Prelude.{ℕ, ◌+◌, ◌-◌, ◌%◌, ◌^◌, Bool, true, false, not, ◌&&◌, ◌||◌, List, [], ◌∷◌, eqb, ltb, leb, length}
+use Rattle.std.specs.Prelude.{ℕ, ◌+◌, ◌-◌, ◌%◌, ◌^◌, Bool, false, not, ◌&&◌, ◌||◌, List, [], ◌∷◌, eqb, ltb, leb, length}
 use Rattle.relay.specs.Choice.{pick}
 use Rattle.relay.specs.Examples.{lacks_table, listed}
 use Rattle.relay.specs.Posts.{at}

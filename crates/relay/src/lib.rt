@@ -1,6 +1,8 @@
 // The relay rules: the record of a post, the session head, and the numbers of the paper. The rules themselves stand in specs/,
 // each beside the sentence that it comes from, and proofs/ has what is proved of them; `step` has them as functions.
 
+#![tactic(auto)]
+
 // The kinds of post.
 pub const ORIGIN: u32 = 0;
 
@@ -85,7 +87,7 @@ pub const MOST_EVENTS: u32 = 1000000;
 
 // The record of one post: its relay word, its kind, the five counts of the section downstream and the four of the section upstream.
 #[repr(C)]
-#[derive(Drop)]
+#[derive(Clone, Copy)]
 pub struct Post {
     pub word: u32,
     pub kind: u32,
@@ -102,7 +104,7 @@ pub struct Post {
 
 // The session head: events taken so far, last stamp.
 #[repr(C)]
-#[derive(Drop)]
+#[derive(Clone, Copy)]
 pub struct Head {
     pub taken: u32,
     pub last: u32,
@@ -110,21 +112,21 @@ pub struct Head {
 
 // What a call returns: its number and the head.
 #[repr(C)]
-#[derive(Drop)]
+#[derive(Clone, Copy)]
 pub struct Told {
     pub answer: u32,
     pub head: Head,
 }
 
 // The post that an event names, and its neighbour.
-#[derive(Drop)]
+#[derive(Clone, Copy)]
 pub struct Pair {
     pub here: Post,
     pub other: Post,
 }
 
 // An event at the post named and its neighbour: what is returned, and the two posts afterwards.
-#[derive(Drop)]
+#[derive(Clone, Copy)]
 pub struct Worked {
     pub told: Told,
     pub here: Post,
