@@ -21,11 +21,12 @@ use Rattle.history.specs.History.{did, is_jammed}
 use Rattle.history.specs.Run.{run, begun, at_first}
 use Rattle.history.proofs.Followed.{Moves, not_did, Followed, reached-says}
 use Rattle.history.proofs.Reached.{run-reached}
+use Rattle.history.proofs.JamMoves.{jams, frees}
 
 -- event n makes of the jam of the post named what its entry says
 module _ (i t m : ℕ) where
   abbrev By : ℕ → Type 0
-  By n = Moves jam (did 11) (did 12) i t m n
+  By n = Moves jam jams frees i t m n
 
   by_jamming : By 11
   unfolding did
@@ -39,7 +40,7 @@ module _ (i t m : ℕ) where
 abbrev moves : ℕ → Bool
 moves n = eqb n 11 || eqb n 12
 
-pub jam-followed : Followed jam (did 11) (did 12) moves
+pub jam-followed : Followed jam jams frees moves
 unfolding did touched fresh_word up raise
 jam-followed =
     record {

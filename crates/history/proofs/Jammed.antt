@@ -19,9 +19,11 @@ use Rattle.history.specs.History.{Entry, did, is_up, is_jammed, announcement, re
 use Rattle.history.specs.Run.{State, run, begun, Reached, at_first}
 use Rattle.history.proofs.Agrees.{and-false, recorded}
 use Rattle.history.proofs.Reached.{run-reached}
+use Rattle.history.proofs.JamMoves.{frees}
 use Rattle.history.proofs.Releases.{Behind, releases-behind}
 use Rattle.history.proofs.Reopened.{did_facts}
-use Rattle.history.proofs.Runs.{Sound, reached-sound, reached-length, begun-sound, begun-length}
+use Rattle.history.proofs.Runs.{reached-sound, reached-length, begun-sound, begun-length}
+use Rattle.history.proofs.RunsBefore.{Sound}
 
 -- ---- positions
 -- freed within a stretch is freed within a longer one
@@ -34,7 +36,7 @@ freed-since : (i : ℕ) (m : List Entry) (x : Entry) (b : List Entry) → did 11
 unfolding is_up
 freed-since i [] x b d e = absurd (false≢true (sym ((nor_facts (did 11 i x) _).0 e).0 ∙ d))
 freed-since i (y ∷ m) x b d e =
-    split (did 12 i y)
+    split (frees i y)
     (λ f. record { later = []; freeing = y; earlier = m; splits = refl; freed = f })
     (λ f. later-on y (freed-since i m x b d (rw f at ((nor_facts (did 11 i y) _).0 e).1)))
 

@@ -2,7 +2,7 @@
 -- Each holds by the equations of a valid section, once the counts of its records are those of the history.
 use Prim.Native.Nat.{ℕ, ◌+◌, ◌<◌}
 use mathlib.Core.Path.{◌≡◌, refl, sym, ◌∙◌}
-use mathlib.Core.Bool.{true, false, false≢true}
+use mathlib.Core.Bool.{true, false≢true}
 use mathlib.Core.List.{List}
 use native.Mathlib.Omega.{arith}
 use lib.ListN.{length}
@@ -19,7 +19,8 @@ use Rattle.history.specs.Run.{State, run, begun, Reached, at_first}
 use Rattle.history.specs.Demand.{Counted, Ends, Conserved, holders, HeldByOne, Locked}
 use Rattle.history.proofs.Agrees.{Agrees}
 use Rattle.history.proofs.Reached.{run-reached}
-use Rattle.history.proofs.Runs.{Sound, reached-sound, reached-length, begun-sound, begun-length}
+use Rattle.history.proofs.Runs.{reached-sound, reached-length, begun-sound, begun-length}
+use Rattle.history.proofs.RunsBefore.{Sound}
 
 -- ---- one section
 -- the equations of a valid section, with counts for the records'

@@ -1,6 +1,6 @@
 -- A semaphore passed open, at a post that blocks at the signal pedal, stays closed until an announcement is sent and then a release received or a restoration made.
 -- L is down after the strike with RL up; nothing raises L while RL is up, RL drops by an announcement only, and rises by a release received or a restoration only.
-use Prim.Native.Nat.{ℕ, ◌+◌, ◌<◌}
+use Prim.Native.Nat.{ℕ, ◌<◌}
 use mathlib.Core.Path.{◌≡◌, refl, sym, ◌∙◌}
 use mathlib.Core.Bool.{true, false, false≢true}
 use mathlib.Core.List.{List, [], ◌∷◌, ◌++◌}
@@ -23,7 +23,8 @@ use Rattle.history.specs.History.{Entry, entry, did, is_open, announces}
 use Rattle.history.specs.Run.{State, given, answer, step, run, begun, Befalls, given_event, refused-outside, moved-elsewhere, Reached, at_first, further}
 use Rattle.history.specs.Demand.{Freed}
 use Rattle.history.proofs.Reached.{run-reached}
-use Rattle.history.proofs.Runs.{Sound, reached-sound, begun-sound}
+use Rattle.history.proofs.Runs.{reached-sound, begun-sound}
+use Rattle.history.proofs.RunsBefore.{Sound}
 use Rattle.history.proofs.Kind.{reached-kinds}
 use Rattle.history.proofs.Signal.{Says, reached_open}
 use Rattle.history.proofs.Turns.{Turn, quiet, sends, frees, turn}

@@ -25,7 +25,7 @@ use Rattle.relay.proofs.Word.{relays}
 use Rattle.history.specs.History.{Entry, entry, did, announces, last_sent, jam_loses, receives}
 use Rattle.history.specs.Run.{State, given, answer}
 use Rattle.history.proofs.Agrees.{release-sent}
-use Rattle.history.proofs.Runs.{Sound}
+use Rattle.history.proofs.RunsBefore.{Sound}
 
 -- ---- what an entry x, after the history h, may make of post i: q before it, q' after
 pub data Turn (i : ℕ) (h : List Entry) (x : Entry) (q q' : Post) : Type 0 where

@@ -5,7 +5,7 @@
 use Rattle.std.specs.Prelude.{ℕ, ◌≤◌, ◌≡◌, List, [], ◌∷◌}
 use Rattle.relay.specs.Answers.{taken}
 use Rattle.relay.specs.Examples.{Event}
-use Rattle.relay.specs.Line.{After, told, start_of, event_of}
+use Rattle.relay.specs.Line.{After, start_of, event_of}
 use Rattle.relay.specs.Valid.{most_events}
 use Rattle.relay.specs.declared.Head.{Head}
 use Rattle.relay.specs.declared.Post.{Post}
