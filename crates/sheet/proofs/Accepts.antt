@@ -1,9 +1,9 @@
 -- An accepted sheet is a good one, and a good one is accepted: each test of a block is its facts, word by word.
 -- Assumes nothing.
-use Prim.Native.Nat.{ℕ, zero, suc, ◌+◌, ◌-◌, ◌*◌, ◌/◌, ◌%◌, ◌^◌, ◌≤◌, ◌<◌}
-use mathlib.Core.Path.{◌≡◌, refl, sym, ap, subst, ◌∙◌}
+use Prim.Native.Nat.{ℕ, zero, suc, ◌+◌, ◌-◌, ◌*◌, ◌%◌, ◌≤◌, ◌<◌}
+use mathlib.Core.Path.{◌≡◌, refl, sym}
 use mathlib.Core.Logic.{⊎_elim, ◌↔◌}
-use mathlib.Core.Bool.{Bool, true, false, ◌&&◌, ◌||◌, false≢true}
+use mathlib.Core.Bool.{Bool, true, false, ◌&&◌, false≢true}
 use mathlib.Core.List.{List}
 use native.Mathlib.Nat.{eq-or-lt_of_le}
 use native.Mathlib.Omega.{arith}
@@ -11,17 +11,17 @@ use borrow.Author.Tests.{eq-eqb, ne_eqb, eqb-true, eqb-false, leb-true, le-leb}
 use lib.Dec.{eqb, leb}
 use lib.ListN.{length}
 use Rattle.relay.proofs.Truth.{and_facts}
-use Rattle.relay.specs.Choice.{pick}
 use Rattle.sheet.specs.Layout.{block_bytes, check_at, most_blocks, per_block}
 use Rattle.sheet.specs.Check.{word}
 use Rattle.sheet.specs.Sheet.{table_words}
 use Rattle.sheet.specs.Reading.{form_in, table_in, table_fits, form_ok, head_ok, events_fit, events_ok, first_upper, entries_ok, zeros, contents_ok, length_ok, blocks_in, verdict_up_to}
 use Rattle.sheet.proofs.Good.{Good}
-use Rattle.sheet.proofs.Lengths.{Whole, whole}
+use Rattle.sheet.proofs.Lengths.{whole}
 use Rattle.sheet.proofs.Table.{fits-few, words-few}
-use Rattle.sheet.proofs.First.{GoodBlock, AllGood, good-blocks}
+use Rattle.sheet.proofs.First.{good-blocks}
+use Rattle.sheet.proofs.FirstTurn.{GoodBlock}
 use Rattle.sheet.proofs.Sums.{checks_iff}
-use Rattle.sheet.proofs.Upper.{IsFirst, first_upper_lem, one_first}
+use Rattle.sheet.proofs.Upper.{first_upper_lem, one_first}
 
 -- ---- the loops, by index
 zeros_all : (s : List ℕ) (b k n : ℕ) → zeros s b k n ≡ true → (j : ℕ) → k ≤ j → j < k + n → word s b j ≡ 0

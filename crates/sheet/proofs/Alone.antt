@@ -1,6 +1,6 @@
 -- One block by itself: exactly when it checks, as which number, and that this is the check that reading makes of each block of a sheet.
 -- Assumes nothing.
-use mathlib.Core.Path.{◌≡◌, refl, sym, ap, ◌∙◌}
+use mathlib.Core.Path.{◌≡◌, refl, sym, ◌∙◌}
 use mathlib.Core.Logic.{◌≢◌, ◌↔◌}
 use Prim.Native.Nat.{ℕ, ◌+◌, ◌*◌, ◌%◌, ◌^◌, ◌≤◌, ◌<◌}
 use mathlib.Core.Bool.{true, false, and-false}
@@ -16,7 +16,8 @@ use Rattle.sheet.specs.Check.{sum, word, checks_as, checks, checks_alone, block_
 use Rattle.sheet.specs.Reading.{length_ok, blocks_in, verdict, verdict_up_to}
 use Rattle.sheet.specs.declared.Verdict.{Verdict}
 use Rattle.sheet.proofs.Bytes.{word-drop, word-take}
-use Rattle.sheet.proofs.First.{AllGood, NamedSheet, bad-length, blocks, all_good, bad_check, bad_contents, upper, other, verdict_iff, good-blocks}
+use Rattle.sheet.proofs.First.{NamedSheet, bad-length, blocks, verdict_iff, good-blocks}
+use Rattle.sheet.proofs.FirstTurn.{AllGood, all_good, bad_check, bad_contents, upper, other}
 use Rattle.sheet.proofs.Lengths.{whole}
 use Rattle.sheet.proofs.Sums.{sum_agree, checks_iff}
 
@@ -39,10 +40,6 @@ module _ (t : List ℕ) where
   pub large_number : (b : ℕ) → 2 ^ 32 ≤ check_base + b → checks_alone t b ≡ false
   unfolding checks_alone checks_as
   large_number b h = rw (ne_eqb (sum (word t 0) block_words % 2 ^ 32) (check_base + b) (λ e. omega arith)) (and-false (eqb (length t) block_bytes))
-
-  -- a block checks as one number at most
-  pub one_number : (b c : ℕ) → checks_alone t b ≡ true → checks_alone t c ≡ true → b ≡ c
-  one_number b c p q = omega (arith, ((alone_iff b).0 p).1, ((alone_iff c).0 q).1)
 
 -- ---- the blocks of a sheet s
 module _ (most : ℕ) (s : List ℕ) where

@@ -2,7 +2,7 @@
 -- What writing stores is the sheet's bytes, which are accepted and say the sheet; what reading hands out is what the sheet says, which is written as its bytes.
 -- `Typed t` is what the arguments' types say of a sheet to write, and `Below 256 s` of a slice of bytes.
 -- Assumes nothing.
-use Prim.Native.Nat.{ℕ, ◌*◌, ◌≤◌}
+use Prim.Native.Nat.{ℕ, ◌≤◌}
 use mathlib.Core.Path.{◌≡◌, refl, sym, ap, ◌∙◌}
 use mathlib.Core.Bool.{true}
 use mathlib.Core.List.{List, ◌++◌}

@@ -1,9 +1,9 @@
 -- What a refused call on a sheet of either form leaves, and both round trips, as the calls say them. 00, demand 1: 'A refused sheet or write leaves the lent output unaltered.' Demand 2: 'A sheet that was written reads back as its table and events. An accepted sheet, read and written again, has the same bytes.'
 -- As in proofs/Calls.antt for one track: what writing stores is the sheet's bytes, which are accepted and say the sheet; what reading hands out is what the sheet says, which is written as its bytes.
 -- Assumes nothing.
-use Prim.Native.Nat.{ℕ, ◌+◌, ◌*◌, ◌^◌, ◌≤◌, ◌<◌}
+use Prim.Native.Nat.{ℕ, ◌^◌, ◌≤◌, ◌<◌}
 use mathlib.Core.Path.{◌≡◌, refl, sym, ap, ◌∙◌}
-use mathlib.Core.Bool.{Bool, true, not, ◌&&◌}
+use mathlib.Core.Bool.{true}
 use mathlib.Core.List.{List, ◌++◌}
 use native.Mathlib.Omega.{arith}
 use borrow.Author.Tests.{ne_eqb, eqb-true, eqb-false, le-leb, leb-true}

@@ -14,7 +14,8 @@ use native.Mathlib.Omega.{arith}
 use Rattle.sheet.specs.Layout.{block_words, check_wrong}
 use Rattle.sheet.specs.Check.{sum, word, target, checks_as, checks}
 use Rattle.sheet.specs.Reading.{length_ok, blocks_in, verdict, verdict_up_to}
-use Rattle.sheet.proofs.First.{AllGood, verdict_iff, blocks, bad_check}
+use Rattle.sheet.proofs.First.{verdict_iff, blocks}
+use Rattle.sheet.proofs.FirstTurn.{AllGood, bad_check}
 use Rattle.sheet.proofs.Sums.{sum_agree}
 
 -- sums that differ in one place differ by the words that stand there

@@ -1,25 +1,24 @@
 -- The numbers of writing and of reading into lent room, given exactly when: writing's as the paper's table gives them, row by row; reading's as First's, then 21.
 -- Assumes nothing.
-use Prim.Native.Nat.{ℕ, ◌+◌, ◌*◌, ◌/◌, ◌%◌, ◌≤◌, ◌<◌}
+use Prim.Native.Nat.{ℕ, ◌+◌, ◌*◌, ◌/◌, ◌≤◌, ◌<◌}
 use mathlib.Core.Path.{◌≡◌, refl, subst}
 use mathlib.Core.Logic.{◌↔◌, ◌⊎◌, inl, inr}
-use mathlib.Core.Bool.{Bool, true, false, not, ◌&&◌, ◌||◌, and-false}
+use mathlib.Core.Bool.{true, false, not, ◌&&◌, and-false}
 use mathlib.Core.List.{List, [], ◌∷◌}
 use native.Mathlib.Omega.{arith}
 use borrow.Author.Tests.{eq-eqb, ne_eqb, eqb-true, eqb-false, lt-ltb, le-ltb, lt-leb, le-leb, leb-false}
-use lib.Dec.{eqb, leb, ltb}
+use lib.Dec.{leb, ltb}
 use lib.ListN.{length, get_or, take, drop}
-use Rattle.relay.specs.Choice.{pick}
 use Rattle.relay.specs.Given.{given_by}
-use Rattle.relay.specs.Kinds.{table_ok}
-use Rattle.relay.proofs.Given.{first, absent, once, first_given, table-wrong, not_both}
+use Rattle.relay.proofs.Given.{table-wrong, not_both}
+use Rattle.relay.proofs.GivenForms.{first, absent, once, first_given}
 use Rattle.relay.proofs.Truth.{facts, split, least_or_below, equal_or_not}
-use Rattle.sheet.specs.Entry.{number_of, post_of, answer_of, in_fields}
+use Rattle.sheet.specs.Entry.{in_fields}
 use Rattle.sheet.specs.Given.{out_of_field, write_reasons, two_wrong, start_wrong, one_from, out_of_track, tracked_reasons}
 use Rattle.sheet.specs.Layout.{one_track, room_short}
 use Rattle.sheet.specs.Reading.{form_ok, tables_ok, table_fits, verdict_at, verdict, verdict_of, accepted, decode, room_for, read_of}
 use Rattle.sheet.specs.Sheet.{Sheet, Tracked}
-use Rattle.sheet.specs.Writing.{all_in_fields, all_below, tracks_fit, may_start, all_fit, bytes_for, size_number, tracked_number, write_number}
+use Rattle.sheet.specs.Writing.{all_in_fields, all_below, tracks_fit, bytes_for, size_number, tracked_number, write_number}
 use Rattle.sheet.specs.declared.Verdict.{Verdict}
 use Rattle.sheet.proofs.First.{NamedSheet, verdict_iff}
 

@@ -1,5 +1,6 @@
 pub mod Accepts
 pub mod Alone
+pub mod AloneNumber
 pub mod Along
 pub mod AnyRoom
 pub mod BlockWords
@@ -9,6 +10,7 @@ pub mod CallsTracks
 pub mod Contents
 pub mod Damage
 pub mod Fields
+pub mod FirstTurn
 pub mod First
 pub mod Forms
 pub mod Given
@@ -17,6 +19,8 @@ pub mod Laid
 pub mod Lengths
 pub mod One
 pub mod Packing
+pub mod PackingBack
+pub mod PackingFields
 pub mod Paper
 pub mod Places
 pub mod Puts
@@ -29,5 +33,6 @@ pub mod Tabs
 pub mod TripRead
 pub mod TripWritten
 pub mod Trips
+pub mod UpperBits
 pub mod Upper
 pub mod Writable

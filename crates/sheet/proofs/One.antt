@@ -4,7 +4,6 @@ use Prim.Native.Nat.{ℕ}
 use mathlib.Core.Path.{◌≡◌, sym, ap, ◌∙◌}
 use mathlib.Core.Bool.{Bool}
 use mathlib.Core.List.{List}
-use lib.ListN.{length}
 use Rattle.sheet.specs.Check.{checks_alone}
 use Rattle.sheet.specs.Sheet.{Sheet, Tracked}
 use Rattle.sheet.specs.Reading.{verdict_up_to, verdict_of, decode, decode_tracked, handed, handed_by, Reads, ReadsTracks}

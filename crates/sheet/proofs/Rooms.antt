@@ -2,9 +2,8 @@
 -- Assumes nothing.
 use Prim.Native.Nat.{ℕ, ◌+◌, ◌-◌, ◌*◌, ◌/◌, ◌%◌, ◌≤◌, ◌<◌}
 use mathlib.Core.Path.{◌≡◌, refl, sym, ap, ◌∙◌}
-use mathlib.Core.Logic.{⊎_elim}
-use mathlib.Core.Bool.{Bool, true, false, ◌&&◌}
-use mathlib.Core.List.{List, [], ◌++◌}
+use mathlib.Core.Bool.{Bool, true, false}
+use mathlib.Core.List.{List, ◌++◌}
 use native.Mathlib.Omega.{arith}
 use borrow.Author.Tests.{eq-eqb, ne_eqb, le-leb, lt-leb, leb-true, leb-false}
 use lib.Dec.{eqb, leb}
@@ -14,15 +13,13 @@ use Rattle.relay.specs.Kinds.{table_ok}
 use Rattle.sheet.specs.Layout.{most_entries, per_block, one_track, room_short}
 use Rattle.sheet.specs.Words.{tab}
 use Rattle.sheet.specs.Check.{word}
-use Rattle.sheet.specs.Sheet.{Sheet}
-use Rattle.sheet.specs.Reading.{form_in, kinds_in, form_ok, blocks_in, verdict, verdict_up_to, verdict_of, entries_in, entry_in, decode, refused, found, room_for, read_of, handed, Reads}
+use Rattle.sheet.specs.Reading.{form_in, kinds_in, form_ok, blocks_in, verdict, verdict_up_to, verdict_of, entries_in, entry_in, decode, refused, found, room_for, read_of, Reads}
 use Rattle.sheet.specs.Writing.{bytes_for}
 use Rattle.sheet.specs.Shape.{NoUpper}
 use Rattle.sheet.specs.declared.Verdict.{Verdict}
-use Rattle.sheet.specs.declared.Found.{Found}
 use Rattle.sheet.proofs.Accepts.{accepted-good}
 use Rattle.sheet.proofs.Good.{Good}
-use Rattle.sheet.proofs.Upper.{zero-upper}
+use Rattle.sheet.proofs.UpperBits.{zero-upper}
 use Rattle.relay.proofs.Truth.{facts, least_or_below}
 use Rattle.sheet.proofs.Table.{fits-few, fits_one}
 use Rattle.sheet.proofs.Tabs.{length-tab}

@@ -1,8 +1,8 @@
 -- Reading a sheet of either form into lent room, by its outcomes: a refusal leaves the three rooms, and a good sheet with room enough hands out its table, its events and their tracks.
 -- Assumes nothing.
 use Prim.Native.Nat.{ℕ, ◌+◌}
-use mathlib.Core.Path.{◌≡◌, refl, sym, ap, ◌∙◌}
-use mathlib.Core.Bool.{Bool, true, false, ◌&&◌}
+use mathlib.Core.Path.{◌≡◌, refl}
+use mathlib.Core.Bool.{true, false, ◌&&◌}
 use mathlib.Core.List.{List, ◌++◌}
 use borrow.Author.Tests.{eq-eqb, ne_eqb}
 use lib.Dec.{eqb, leb}
@@ -13,7 +13,6 @@ use Rattle.sheet.specs.Check.{word}
 use Rattle.sheet.specs.Sheet.{table_words}
 use Rattle.sheet.specs.Reading.{form_in, verdict, verdict_up_to, entries_in, entry_in, track_on, decode_tracked, refused_tracks, found_tracks, room_for_tracks, read_tracks_of, ReadsTracks}
 use Rattle.sheet.specs.declared.Verdict.{Verdict}
-use Rattle.sheet.specs.declared.FoundTracks.{FoundTracks}
 use Rattle.sheet.proofs.TripRead.{form_is, stamp_is, table-long, events-long, tracks-long, posts-words}
 
 -- ---- what a sheet says

@@ -23,7 +23,8 @@ use Rattle.sheet.proofs.Good.{Good}
 use Rattle.sheet.proofs.Tabs.{length-tab, get_d_tab, tab_is}
 use Rattle.sheet.proofs.Bytes.{Below, word_small, words_back}
 use Rattle.sheet.proofs.Fields.{every, below-every}
-use Rattle.sheet.proofs.Packing.{word_back, track-small, unpacked-fields}
+use Rattle.sheet.proofs.PackingBack.{word_back, track-small}
+use Rattle.sheet.proofs.PackingFields.{unpacked-fields}
 use Rattle.sheet.proofs.Accepts.{good-accepted}
 use Rattle.sheet.proofs.Rooms.{placed}
 use Rattle.sheet.proofs.Table.{words_one}

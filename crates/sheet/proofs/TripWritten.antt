@@ -20,7 +20,8 @@ use Rattle.sheet.proofs.Sums.{sum_agree, sum_more, seal-adds}
 use Rattle.sheet.proofs.Good.{Good}
 use Rattle.sheet.proofs.Tabs.{length-tab, get_d_tab, tab_is}
 use Rattle.sheet.proofs.Bytes.{length-bytes, word_bytes}
-use Rattle.sheet.proofs.Packing.{packed-small, entry-back, track-back}
+use Rattle.sheet.proofs.Packing.{packed-small}
+use Rattle.sheet.proofs.PackingBack.{entry-back, track-back}
 use Rattle.sheet.proofs.Along.{both}
 use Rattle.sheet.proofs.BlockWords.{head_first, head-count, head-stamp, head-kind, head-zero, events-count, events-word, events-stamp, events-zero, body_is, check_is}
 use Rattle.sheet.proofs.Laid.{fits-long, flat}

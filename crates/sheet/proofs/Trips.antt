@@ -7,7 +7,7 @@
 --     sheets_differ        two accepted sheets that say the same are the same bytes
 -- `Below 256 s` is what a slice of bytes is known to be.
 -- Assumes nothing.
-use Prim.Native.Nat.{ℕ, ◌*◌, ◌/◌, ◌≤◌}
+use Prim.Native.Nat.{ℕ, ◌≤◌}
 use mathlib.Core.Path.{◌≡◌, sym, ap, subst, ◌∙◌}
 use mathlib.Core.List.{List}
 use native.Mathlib.Omega.{arith}

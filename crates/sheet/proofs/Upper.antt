@@ -1,30 +1,16 @@
 -- The first event word with upper bits, by the words: all before it have none, and it has; and no other is so.
 -- Assumes nothing.
-use Prim.Native.Nat.{ℕ, zero, suc, ◌+◌, ◌-◌, ◌*◌, ◌≤◌, ◌<◌}
-use mathlib.Core.Path.{◌≡◌, refl, sym, ◌∙◌}
+use Prim.Native.Nat.{ℕ, zero, suc, ◌+◌, ◌*◌, ◌≤◌, ◌<◌}
+use mathlib.Core.Path.{◌≡◌}
 use mathlib.Core.Logic.{⊎_elim}
-use mathlib.Core.Bool.{Bool, true, false}
 use mathlib.Core.List.{List}
 use native.Mathlib.Nat.{eq-or-lt_of_le}
 use native.Mathlib.Omega.{arith}
-use borrow.Author.Tests.{ltb-true, ltb-false, lt-ltb}
 use Rattle.relay.proofs.Truth.{split, least_or_below}
 use Rattle.sheet.specs.Check.{word}
 use Rattle.sheet.specs.Entry.{upper_zero}
 use Rattle.sheet.specs.Reading.{form_in, first_upper}
-
--- 'bits 16 to 31 are zero', or 17 to 31, by how many tracks the sheet is of
-pub upper-zero : (f w : ℕ) → upper_zero f w ≡ true → w < f * 65536
-unfolding upper_zero
-upper-zero f w e = ltb-true w (f * 65536) e
-
-pub upper-some : (f w : ℕ) → upper_zero f w ≡ false → f * 65536 ≤ w
-unfolding upper_zero
-upper-some f w e = ltb-false w (f * 65536) e
-
-pub zero-upper : (f w : ℕ) → w < f * 65536 → upper_zero f w ≡ true
-unfolding upper_zero
-zero-upper f w h = lt-ltb w (f * 65536) h
+use Rattle.sheet.proofs.UpperBits.{upper-zero, upper-some}
 
 -- ---- of n events of block b, from event j on
 module _ (s : List ℕ) (b : ℕ) where

@@ -1,16 +1,15 @@
 -- A sheet that can be written, as plain facts: what writing does not refuse, and what its numbers are by their types. Its words then all fit.
 -- Assumes nothing.
 use mathlib.Core.Path.{◌≡◌, refl}
-use Prim.Native.Nat.{ℕ, zero, suc, ◌+◌, ◌*◌, ◌^◌, ◌≤◌, ◌<◌}
-use mathlib.Core.List.{List, [], ◌∷◌}
+use Prim.Native.Nat.{ℕ, suc, ◌+◌, ◌*◌, ◌^◌, ◌≤◌, ◌<◌}
 use mathlib.Core.Bool.{Bool, true, false, not}
-use borrow.Author.Tests.{leb-true, ltb-true, lt-ltb, eqb-true}
+use borrow.Author.Tests.{leb-true, eqb-true}
 use lib.Dec.{eqb, leb, ltb}
-use lib.ListN.{length, get_or, get_or-eq_default}
+use lib.ListN.{length}
 use native.Mathlib.Omega.{arith}
 use Rattle.relay.specs.Kinds.{table_ok}
 use Rattle.relay.specs.Choice.{pick}
-use Rattle.relay.proofs.Truth.{facts, split, least_or_below}
+use Rattle.relay.proofs.Truth.{facts, split}
 use Rattle.sheet.specs.Layout.{most_entries, per_block, check_at, two_tracks}
 use Rattle.sheet.specs.Check.{sum}
 use Rattle.sheet.specs.Entry.{stamp_of}

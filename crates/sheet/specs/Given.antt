@@ -2,7 +2,7 @@
 -- A second reading of the paper beside specs/Writing.antt, with the paper's own numbers; that the two agree stands in proofs/Given.antt.
 -- Those of reading, with the block that they name, are proofs/First.antt's.
 -- Assumes nothing.
-use Rattle.std.specs.Prelude.{ℕ, ◌+◌, ◌*◌, ◌/◌, ◌%◌, Bool, true, false, not, ◌&&◌, ◌||◌, List, [], ◌∷◌, eqb, leb, ltb, length, get_or, take, drop}
+use Rattle.std.specs.Prelude.{ℕ, ◌+◌, ◌*◌, ◌/◌, ◌%◌, Bool, true, false, not, ◌||◌, List, [], ◌∷◌, eqb, leb, ltb, length, get_or, take, drop}
 use Rattle.relay.specs.Choice.{pick}
 use Rattle.relay.specs.Given.{Row, row, table_wrong}
 use Rattle.sheet.specs.Entry.{number_of, post_of, answer_of}

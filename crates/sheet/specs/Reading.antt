@@ -1,7 +1,7 @@
 -- Reading a sheet. 01, 'The event sheet': 'Reading tests the length (18), then each block in turn, check before contents, and stops at once at the first bad block, naming it.'
 -- Which forms are taken is said by the most tracks that a sheet may be of: 1, and since 02, item 7, also 2.
 -- Assumes nothing.
-use Rattle.std.specs.Prelude.{ℕ, zero, suc, ◌+◌, ◌-◌, ◌*◌, ◌/◌, ◌%◌, Bool, true, false, not, ◌&&◌, ◌||◌, ◌≡◌, List, [], ◌∷◌, ◌++◌, eqb, ltb, leb, length, drop}
+use Rattle.std.specs.Prelude.{ℕ, zero, suc, ◌+◌, ◌-◌, ◌*◌, ◌/◌, ◌%◌, Bool, true, not, ◌&&◌, ◌||◌, ◌≡◌, List, ◌++◌, eqb, leb, length, drop}
 use Rattle.relay.specs.Choice.{pick}
 use Rattle.relay.specs.Kinds.{table_ok}
 use Rattle.sheet.specs.Layout.{block_bytes, most_blocks, check_at, per_block, one_track, two_tracks, last_circuit, length_wrong, check_wrong, contents_wrong, room_short, upper_bits}

@@ -1,7 +1,7 @@
 -- The layout as the reader takes it: of one block whether its counts are right, how many events it holds, and where its zeros begin; of a sheet that no event word has upper bits.
 -- That contents are right exactly when the shape is, its event words are and the rest is zero stands in proofs/Contents.antt.
 -- Assumes nothing.
-use Rattle.std.specs.Prelude.{ℕ, ◌+◌, ◌*◌, ◌/◌, ◌%◌, ◌<◌, Bool, true, false, ◌&&◌, ◌||◌, List, ◌≡◌, eqb, leb}
+use Rattle.std.specs.Prelude.{ℕ, ◌+◌, ◌*◌, ◌/◌, ◌%◌, ◌<◌, Bool, true, false, ◌&&◌, List, ◌≡◌, eqb}
 use Rattle.relay.specs.Choice.{pick}
 use Rattle.sheet.specs.Layout.{per_block}
 use Rattle.sheet.specs.Sheet.{table_words}

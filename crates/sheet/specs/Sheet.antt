@@ -1,6 +1,6 @@
 -- The event sheet: which word stands where. 01, 'The event sheet'; 02, item 7, for a sheet of two tracks. Reading and writing, of either form, are all stated by this one description.
 -- Assumes nothing.
-use Rattle.std.specs.Prelude.{ℕ, ◌+◌, ◌-◌, ◌*◌, ◌/◌, ◌%◌, min, Bool, List, [], ◌∷◌, eqb, ltb, length, get_or, take, drop, replicate}
+use Rattle.std.specs.Prelude.{ℕ, ◌+◌, ◌-◌, ◌*◌, ◌/◌, ◌%◌, min, List, [], ◌∷◌, eqb, ltb, length, get_or, take, drop, replicate}
 use Rattle.relay.specs.Choice.{pick}
 use Rattle.sheet.specs.Layout.{block_words, check_at, per_block, one_track, two_tracks}
 use Rattle.sheet.specs.Words.{bytes, tab}

@@ -1,16 +1,19 @@
 // The event sheet: its numbers, and what testing, reading and unpacking say. What a sheet is stands in specs/, what is proved of it
 // in proofs/; `lent_sheet` tests, reads and writes one in lent bytes.
+
+#![tactic(auto)]
+
 pub mod layout;
 
 // What unpacking an event word says: its number, post, answer and track, or that its upper bits are not zero.
-#[derive(Drop)]
+#[derive(Clone, Copy)]
 pub enum Unpacked {
     Fields(u32, u32, u32, u32),
     Upper,
 }
 
 // What a block must hold before its words are looked at one by one: how many events, and how many words before the zeros. `ok` is false where it departs from the layout.
-#[derive(Drop)]
+#[derive(Clone, Copy)]
 pub struct Shape {
     pub ok: bool,
     pub events: usize,
@@ -19,7 +22,7 @@ pub struct Shape {
 
 // A refusal of reading, its block, and for 24 the event's position in that block; or zeros.
 #[repr(C)]
-#[derive(Drop)]
+#[derive(Clone, Copy)]
 pub struct Verdict {
     pub number: u32,
     pub block: u32,
@@ -28,7 +31,7 @@ pub struct Verdict {
 
 // What reading returns: the number, block and position, and of a good sheet how many posts it has, its start stamp and how many events.
 #[repr(C)]
-#[derive(Drop)]
+#[derive(Clone, Copy)]
 pub struct Found {
     pub number: u32,
     pub block: u32,
@@ -40,7 +43,7 @@ pub struct Found {
 
 // What reading a sheet of either form returns: number, block and position, and of a good sheet how many tracks it is of, how many posts each has, its start stamp and how many events.
 #[repr(C)]
-#[derive(Drop)]
+#[derive(Clone, Copy)]
 pub struct FoundTracks {
     pub number: u32,
     pub block: u32,
