@@ -11,7 +11,7 @@ use lib.Dec.{eqb, leb}
 use lib.ListN.{length}
 use Rattle.relay.specs.Choice.{pick}
 use Rattle.relay.specs.Clock.{behind}
-use Rattle.relay.specs.Line.{After, told, numbered, present, gate, answer_of, event_of}
+use Rattle.relay.specs.Line.{After, numbered, present, gate, answer_of, event_of}
 use Rattle.relay.specs.Valid.{valid, most_events}
 use Rattle.relay.specs.declared.Head.{Head}
 use Rattle.relay.specs.declared.Post.{Post}
@@ -21,7 +21,8 @@ use Rattle.relay.proofs.Truth.{facts, or_facts, split}
 use Rattle.history.proofs.Agrees.{and-false}
 use Rattle.tracks.specs.Circuit.{polarised, vibrated, circuit_busy, busy, facing, valid_two, sends, sends_in, facing_of, hinders, met, at_last, answer_on, event_on, no_track, nowhere, event_two}
 use Rattle.tracks.proofs.Kept.{on_cases, two_cases}
-use Rattle.tracks.proofs.Together.{ValidTwo, two_iff}
+use Rattle.tracks.proofs.Together.{two_iff}
+use Rattle.tracks.proofs.CircuitKinds.{ValidTwo}
 
 -- ---- the answer
 -- on a track it is that of the order of refusals

@@ -21,7 +21,8 @@ use Rattle.history.proofs.Reopened.{reached_not_reopened}
 use Rattle.history.proofs.Signal.{reached_open}
 use Rattle.tracks.specs.Circuit.{startable_two}
 use Rattle.tracks.specs.Desk.{Asked, Session, of_track, line_of, run, begun, only, view}
-use Rattle.tracks.proofs.Runs.{Valid, starts, ran-good}
+use Rattle.tracks.proofs.Runs.{Valid}
+use Rattle.tracks.proofs.RunsGood.{starts, ran-good}
 
 -- a session of circuit c begun on the rows l and k from the tables ks and js, after the events xs
 module _ (c : ℕ) (l k : List Post) (ks js : List ℕ) (t : ℕ) (started : startable_two c l k ks js ≡ true) (xs : List Asked) where

@@ -14,12 +14,11 @@ use Rattle.relay.specs.Events.{lacks, refusal}
 use Rattle.relay.specs.Given.{Row, row, event_reasons, reasons, given_by, start_reasons, table_wrong}
 use Rattle.relay.specs.Kinds.{has_garage_release, table_ok}
 use Rattle.relay.specs.Line.{numbered, answer_of, startable}
-use Rattle.relay.specs.Posts.{at}
-use Rattle.relay.specs.Valid.{valid}
 use Rattle.relay.specs.declared.Head.{Head}
 use Rattle.relay.specs.declared.Post.{Post}
 use Rattle.relay.proofs.Accepted.{Accepted, accepted_iff}
-use Rattle.relay.proofs.Given.{first, absent, once, first_given, one_given, table-wrong, not_both}
+use Rattle.relay.proofs.Given.{one_given, table-wrong, not_both}
+use Rattle.relay.proofs.GivenForms.{first, absent, once, first_given}
 use Rattle.relay.proofs.Truth.{and_facts, not_facts, split, equal_or_not}
 use Rattle.tracks.specs.Circuit.{circuit_ok, on_wire, facing, valid_two, sends, sends_in, facing_of, hinders, met, at_last, answer_on, no_track, nowhere, AfterTwo, event_two, startable_two, start_two}
 use Rattle.tracks.specs.Given.{also, other_way, wire, circuit_reason, reasons_two, given_two, start_reasons_two}

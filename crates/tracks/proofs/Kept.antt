@@ -11,7 +11,6 @@ use lib.Dec.{eqb}
 use lib.ListN.{length}
 use Rattle.relay.specs.Choice.{pick}
 use Rattle.relay.specs.Line.{After, after, told, head, numbered, neighbour, changed_line, event_of}
-use Rattle.relay.specs.Posts.{at}
 use Rattle.relay.specs.Relays.{W314, W241, up}
 use Rattle.relay.specs.Valid.{valid, most_events}
 use Rattle.relay.specs.declared.Head.{Head}
@@ -26,7 +25,8 @@ use Rattle.relay.proofs.Kept.{event-keeps, later-valid}
 use Rattle.relay.proofs.Truth.{facts, unless_facts, by, split, equal_or_not}
 use Rattle.relay.proofs.Word.{relays}
 use Rattle.tracks.specs.Circuit.{polarised, on_wire, busy, facing, valid_two, sends, sends_in, facing_of, hinders, met, at_last, answer_on, event_on, AfterTwo, after_two, beside, turned, no_track, nowhere, event_two, startable_two, start_two, GivesTwo}
-use Rattle.tracks.proofs.Together.{ValidTwo, two_iff, swapped, fresh_two}
+use Rattle.tracks.proofs.Together.{two_iff, swapped, fresh_two}
+use Rattle.tracks.proofs.CircuitKinds.{ValidTwo}
 
 -- ---- where a signal comes
 or_left : (a b : Bool) → a ≡ true → (a || b) ≡ true

@@ -1,9 +1,11 @@
+pub mod CircuitKinds
 pub mod Together
 pub mod Kept
 pub mod Tested
 pub mod Steps
 pub mod Answers
 pub mod Runs
+pub mod RunsGood
 pub mod Demand
 pub mod Given
 pub mod Vibrated

@@ -3,12 +3,12 @@
 use Prim.Native.Nat.{ℕ, ◌≤◌}
 use mathlib.Core.Path.{◌≡◌, refl}
 use mathlib.Core.Bool.{Bool, true, false, not}
-use mathlib.Core.List.{List, [], ◌∷◌}
+use mathlib.Core.List.{List}
 use native.Mathlib.Omega.{arith}
 use borrow.Author.Tests.{ne_eqb}
 use Rattle.relay.specs.Choice.{one}
 use Rattle.relay.specs.Examples.{Event}
-use Rattle.relay.specs.Line.{After, told, startable, start_of}
+use Rattle.relay.specs.Line.{After, told}
 use Rattle.relay.specs.Valid.{most_events}
 use Rattle.relay.specs.declared.Head.{Head}
 use Rattle.relay.specs.declared.Post.{Post}
@@ -16,9 +16,10 @@ use Rattle.relay.proofs.Facts.{valid_iff}
 use Rattle.history.specs.History.{Entry}
 use Rattle.history.specs.Run.{State, Befalls, given_event, refused-outside, moved-elsewhere, Reached, at_first, further}
 use Rattle.history.specs.Run as hist
-use Rattle.tracks.specs.Circuit.{AfterTwo, after_two, event_on, startable_two, start_two}
-use Rattle.tracks.specs.Desk.{Desk, desk, of_track, line_of, given, Asked, Session, step, run, begun, names, only, view}
-use Rattle.tracks.proofs.Together.{ValidTwo, swapped, startable_iff, fresh_two}
+use Rattle.tracks.specs.Circuit.{AfterTwo, after_two, event_on}
+use Rattle.tracks.specs.Desk.{Desk, desk, line_of, given, Asked, Session, step, names, only, view}
+use Rattle.tracks.proofs.Together.{swapped}
+use Rattle.tracks.proofs.CircuitKinds.{ValidTwo}
 use Rattle.tracks.proofs.Kept.{on_cases, head-later, two_cases, two_keeps}
 
 -- ---- a desk that may be used
@@ -117,38 +118,3 @@ befalls b x w v =
         unfold view step only in
         rw (n, l, t) (on-befalls w.desk.circuit (line_of b w.desk) (line_of (not b) w.desk) w.desk.head (only b w.history) x.event)
     by_seen (elsewhere n l f g) = unfold view step only in rw (n, l) (moved-elsewhere _ f g)
-
--- a run keeps the desk valid, and each track of it is a line in a state that is reached
-pub record Good (first : State) (b : Bool) (w : Session) : Type 0 where
-  pub valid : Valid false w.desk
-  pub reached : Reached first (view b w)
-
-pub run-good : {first : State} (b : Bool) (xs : List Asked) (w : Session) → Good first b w → Good first b (run xs w)
-unfolding run
-run-good b [] w g = g
-run-good b (x ∷ xs) w g =
-    run-good b xs (step x w)
-    (record { valid = step_keeps x w g.valid; reached = further g.reached (befalls b x w g.valid) })
-
--- ---- a session just begun
-module _ (c : ℕ) (l k : List Post) (ks js : List ℕ) (t : ℕ) (started : startable_two c l k ks js ≡ true) where
-  -- each track is one that a line may be started from
-  pub starts : (b : Bool) → startable (of_track b l k) (of_track b ks js) ≡ true
-  starts true = ((startable_iff c l k ks js).0 started).other
-  starts false = ((startable_iff c l k ks js).0 started).own
-
-  pub begun-valid : Valid false (begun c l k ks js t).desk
-  unfolding begun start_two
-  begun-valid = rw started (fresh_two c l k ks js t started)
-
-  -- and is that line just started
-  pub begun-view : (b : Bool) → view b (begun c l k ks js t) ≡ hist.begun (of_track b l k) (of_track b ks js) t
-  unfolding view begun only start_two hist.begun start_of
-  begun-view true = rw (started, starts true)
-  begun-view false = rw (started, starts false)
-
-  -- so after any events
-  pub ran-good : (b : Bool) (xs : List Asked) → Good (hist.begun (of_track b l k) (of_track b ks js) t) b (run xs (begun c l k ks js t))
-  ran-good b xs =
-      run-good b xs (begun c l k ks js t)
-      (record { valid = begun-valid; reached = rw (begun-view b) at_first })

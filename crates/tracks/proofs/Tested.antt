@@ -20,7 +20,8 @@ use Rattle.relay.specs.declared.Head.{Head}
 use Rattle.relay.specs.declared.Post.{Post}
 use Rattle.relay.proofs.Truth.{and_facts, split, equal_or_not}
 use Rattle.tracks.specs.Circuit.{polarised, vibrated, circuit_ok, facing, clear, apart, valid_two}
-use Rattle.tracks.proofs.Together.{ValidTwo, two_iff, circuit_iff, apart-each}
+use Rattle.tracks.proofs.Together.{two_iff, apart-each}
+use Rattle.tracks.proofs.CircuitKinds.{ValidTwo, circuit_iff}
 
 -- the words at the heads of section s of a line and of the one that faces it
 abbrev pub clear_at : List Post → List Post → ℕ → Bool

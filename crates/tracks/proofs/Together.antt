@@ -4,38 +4,21 @@ use Prim.Native.Nat.{ℕ, zero, suc, ◌+◌, ◌-◌, ◌<◌}
 use mathlib.Core.Path.{◌≡◌, refl, sym, ◌∙◌}
 use mathlib.Core.Bool.{true, false, false≢true}
 use mathlib.Core.List.{List, [], ◌∷◌}
-use mathlib.Core.Logic.{◌↔◌, ◌⊎◌, inl, inr, ⊎_elim}
+use mathlib.Core.Logic.{◌↔◌, ◌⊎◌}
 use native.Mathlib.Omega.{arith}
-use borrow.Author.Tests.{eqb-true}
 use lib.Dec.{eqb}
 use lib.ListN.{length}
 use Rattle.relay.specs.Line.{head, fresh_line, startable}
 use Rattle.relay.specs.Kinds.{terminus, ordinary}
-use Rattle.relay.specs.Posts.{at, fresh_word, fresh_post}
+use Rattle.relay.specs.Posts.{fresh_word, fresh_post}
 use Rattle.relay.specs.Relays.{up, raise}
-use Rattle.relay.specs.Valid.{valid}
 use Rattle.relay.specs.declared.Head.{Head}
 use Rattle.relay.specs.declared.Post.{Post}
 use Rattle.relay.proofs.Fresh.{length-fresh}
 use Rattle.relay.proofs.Kept.{fresh-valid}
-use Rattle.relay.proofs.Truth.{facts, or_facts, split, equal_or_not}
-use Rattle.tracks.specs.Circuit.{polarised, vibrated, circuit_ok, on_wire, busy, facing, clear, apart, valid_two, startable_two}
-
--- ---- the facts
-pub record ValidTwo (c : ℕ) (l k : List Post) (s : Head) : Type 0 where
-  pub circuit : (c ≡ polarised) ⊎ (c ≡ vibrated)
-  pub own : valid l s ≡ true
-  pub other : valid k s ≡ true
-  pub long : length l ≡ length k
-  pub alone : c ≡ polarised → (i : ℕ) → i + 1 < length l → busy l i ≡ true → busy k (facing (length l) i) ≡ false
-
--- a circuit kind is 0 or 1
-pub circuit_iff : (c : ℕ) → (circuit_ok c ≡ true) ↔ ((c ≡ polarised) ⊎ (c ≡ vibrated))
-unfolding circuit_ok
-circuit_iff c = (
-  or_facts (eqb c polarised) (eqb c vibrated) (λ e. inl (eqb-true c polarised e)) (λ e. inr (eqb-true c vibrated e)),
-  ⊎_elim (λ e. rw e) (λ e. rw e),
-)
+use Rattle.relay.proofs.Truth.{facts, split, equal_or_not}
+use Rattle.tracks.specs.Circuit.{polarised, vibrated, on_wire, busy, facing, clear, apart, valid_two, startable_two}
+use Rattle.tracks.proofs.CircuitKinds.{ValidTwo, circuit_iff}
 
 -- no two sections that face each other both have a signal under way
 pub apart-each : (l k : List Post) (n : ℕ) → apart l k n ≡ true → (i : ℕ) → i < n → busy l i ≡ true → busy k (facing (length l) i) ≡ false

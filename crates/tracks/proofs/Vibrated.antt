@@ -17,8 +17,9 @@ use Rattle.history.specs.Run as hist
 use Rattle.tracks.specs.Circuit.{vibrated, event_on, startable_two}
 use Rattle.tracks.specs.Desk.{desk, of_track, line_of, given, Asked, Session, step, run, begun, names, only, view, on_track, events_of, none_late}
 use Rattle.tracks.proofs.Answers.{Timely, Alike, vibrated-alone, head-aside}
-use Rattle.tracks.proofs.Runs.{Valid, seen, own, Seen, here, elsewhere, sees, step_keeps, begun-valid, begun-view}
-use Rattle.tracks.proofs.Together.{ValidTwo}
+use Rattle.tracks.proofs.Runs.{Valid, seen, own, Seen, here, elsewhere, sees, step_keeps}
+use Rattle.tracks.proofs.RunsGood.{begun-valid, begun-view}
+use Rattle.tracks.proofs.CircuitKinds.{ValidTwo}
 
 -- ---- no entry is late
 -- neither is the newest, nor any before it

@@ -2,12 +2,8 @@
 use Rattle.relay.specs.Relays.{up}
 use Rattle.tracks.specs.Circuit.{on_wire}
 use Rattle.relay.proofs.Tests.{tests}
-use Rattle.tracks.proofs.circuit.on_wire.Statement.{statement}
-use Rattle.tracks.proofs.circuit.on_wire.Tie as tie
+use Rattle.tracks.proofs.circuit.on_wire.Goals as goal
 
-returns : tie.Need-returns
+pub returns : goal.returns
 unfolding on_wire up
 returns c = search tests
-
-pub on-wire-spec : {M : Type 1} → statement M
-on-wire-spec = tie.close (tie.spec returns)
