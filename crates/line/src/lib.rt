@@ -1,5 +1,8 @@
 // A line that may be used, rule by rule and by value: the tests of one post, of one section, and of one step of the pass over the records.
 // 01, 'A line that may be used' and 'One post's relays'.
+
+#![tactic(auto)]
+
 ghost use Rattle.std.specs.Prelude.{◌≡◌, ◌&&◌, eqb, leb, length};
 ghost use Rattle.relay.specs.Kinds.{count_fits, table_ok};
 ghost use Rattle.relay.specs.Posts.{blank, fresh_post};

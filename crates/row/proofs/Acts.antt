@@ -1,17 +1,16 @@
 -- An event on a row by value is the event on its line: by what the tests before its own say.
 -- Assumes nothing.
-use Prim.Native.Nat.{ℕ, ◌+◌, ◌≤◌, ◌<◌}
+use Prim.Native.Nat.{ℕ, ◌≤◌, ◌<◌}
 use mathlib.Core.Path.{◌≡◌, refl, sym, ap, subst, ◌∙◌}
 use mathlib.Core.Bool.{Bool, true, false, false≢true}
-use mathlib.Core.List.{List, [], ◌++◌}
+use mathlib.Core.List.{List}
 use native.Mathlib.Omega.{arith}
 use borrow.Author.Tests.{leb-true, leb-false, le-leb}
 use lib.Dec.{leb}
-use lib.ListN.{length, take, drop, set, take-append-drop}
+use lib.ListN.{length, set, take-append-drop}
 use Rattle.relay.proofs.Steps.{event_invalid, event_gated, event-worked, in_row, InRow, core}
 use Rattle.relay.specs.Answers.{notValid}
-use Rattle.relay.specs.Kinds.{count_fits}
-use Rattle.relay.specs.Line.{After, after, told, gate, neighbour, event_of, work_of}
+use Rattle.relay.specs.Line.{after, told, gate, neighbour, event_of, work_of}
 use Rattle.relay.specs.Posts.{at}
 use Rattle.relay.specs.Valid.{valid}
 use Rattle.relay.specs.declared.Head.{Head}
@@ -19,7 +18,7 @@ use Rattle.relay.specs.declared.Post.{Post}
 use Rattle.relay.specs.declared.Worked.{Worked}
 use Rattle.row.specs.declared.Row.{Row}
 use Rattle.row.specs.Row.{most, line_of, line_to, stood, event_row}
-use Rattle.row.proofs.Part.{long, at_part, stores, line_is, line_none, row_none}
+use Rattle.row.proofs.Part.{long, at_part, stores, line_is, row_none}
 
 module _ (row : Row) where
   -- the line put back where it was

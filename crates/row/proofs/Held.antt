@@ -1,10 +1,10 @@
 -- A row that holds a line and blank records past it: an event leaves it so, with the line that the event leaves.
 -- Assumes nothing.
 use Prim.Native.Nat.{ℕ, ◌-◌, ◌≤◌}
-use mathlib.Core.Path.{◌≡◌, refl, sym, ap, ◌∙◌}
-use mathlib.Core.List.{List, [], ◌++◌}
+use mathlib.Core.Path.{◌≡◌, refl}
+use mathlib.Core.List.{List}
 use borrow.Author.Tests.{le-leb}
-use lib.ListN.{length, take, drop, replicate}
+use lib.ListN.{length, replicate}
 use lib.Seq.{take_at, drop_at}
 use Rattle.relay.proofs.Frame.{length-stays}
 use Rattle.relay.specs.Line.{event_of}

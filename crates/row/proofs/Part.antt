@@ -7,19 +7,17 @@ use mathlib.Core.List.{List, [], ◌++◌}
 use native.Mathlib.Omega.{arith}
 use borrow.Author.Tests.{le-leb, lt-leb, leb-true, leb-false}
 use lib.Dec.{leb}
-use lib.ListN.{length, take, drop, set, get_or, take-append-drop, length-set}
+use lib.ListN.{length, take, drop, set, take-append-drop}
 use lib.Seq.{length-take-le, get_or-take, take-set-lt, drop-set-lt}
 use Rattle.relay.specs.Kinds.{count_fits}
-use Rattle.relay.specs.Line.{After, after, told, event_of}
 use Rattle.relay.specs.Posts.{at, blank}
 use Rattle.relay.specs.Valid.{valid, most_events}
 use Rattle.relay.specs.declared.Head.{Head}
 use Rattle.relay.specs.declared.Post.{Post}
-use Rattle.relay.specs.declared.Told.{Told}
 use Rattle.line.specs.Pass.{pair_ok, pairs}
 use Rattle.line.proofs.Pass as pass
 use Rattle.row.specs.declared.Row.{Row}
-use Rattle.row.specs.Row.{most, line_of, line_to, stood, event_row}
+use Rattle.row.specs.Row.{most, line_of}
 
 -- ---- the laws of the pass at a line of m posts
 module _ (ys : List Post) (t i m : ℕ) (e : length ys ≡ m) where

@@ -1,10 +1,10 @@
 -- A row of at most 32 records by value: the line that it holds, and what starting and an event make of it, by the definitions of relay's specs/Line.antt.
 -- Assumes nothing.
-use Rattle.std.specs.Prelude.{ℕ, ◌-◌, Bool, List, [], ◌++◌, leb, length, take, drop, replicate}
+use Rattle.std.specs.Prelude.{ℕ, ◌-◌, List, [], ◌++◌, leb, length, take, drop, replicate}
 use Rattle.relay.specs.Answers.{taken, notValid}
 use Rattle.relay.specs.Choice.{pick}
 use Rattle.relay.specs.Kinds.{table_ok}
-use Rattle.relay.specs.Line.{After, head, told, fresh_line, event_of}
+use Rattle.relay.specs.Line.{head, told, fresh_line, event_of}
 use Rattle.relay.specs.Posts.{blank}
 use Rattle.relay.specs.declared.Head.{Head}
 use Rattle.relay.specs.declared.Post.{Post}

@@ -1,4 +1,7 @@
 // A row of at most 32 records by value, for callers that keep the line themselves: the same definitions as over the lent row.
+
+#![tactic(auto)]
+
 ghost use Rattle.std.specs.Prelude.{◌≡◌, length};
 ghost use Rattle.relay.specs.Posts.{at};
 ghost use Rattle.relay.specs.Valid.{valid};
@@ -7,14 +10,14 @@ ghost use Rattle.row.specs.Row.{line_of, event_row, start_row};
 use relay::{Head, Post, Told};
 
 #[repr(C)]
-#[derive(Drop)]
+#[derive(Clone, Copy)]
 pub struct Row {
     pub posts: [Post; 32],
     pub n: usize,
 }
 
 // What a call returns, and the row that it leaves.
-#[derive(Drop)]
+#[derive(Clone, Copy)]
 pub struct Stood {
     pub told: Told,
     pub row: Row,

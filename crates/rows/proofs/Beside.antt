@@ -1,30 +1,27 @@
 -- What two rows by value make of two lines over one circuit: the test of both by its two parts, and an event on a track by what the tests before its own say.
 -- Assumes nothing.
-use Prim.Native.Nat.{ℕ, ◌-◌, ◌≤◌}
+use Prim.Native.Nat.{ℕ, ◌-◌}
 use mathlib.Core.Path.{◌≡◌, refl, sym, ap, ◌∙◌}
 use mathlib.Core.Bool.{Bool, true, false, ◌&&◌, and-true, and-false}
-use mathlib.Core.List.{List, []}
+use mathlib.Core.List.{List}
 use native.Mathlib.Omega.{arith}
 use borrow.Author.Tests.{ne_eqb, eq-eqb}
 use lib.Dec.{eqb}
 use lib.ListN.{length}
 use Rattle.relay.specs.Answers.{taken, notValid}
-use Rattle.relay.specs.Choice.{pick, requires}
-use Rattle.relay.specs.Kinds.{table_ok}
+use Rattle.relay.specs.Choice.{requires}
 use Rattle.relay.specs.Line.{After, after, told, answer_of, event_of}
 use Rattle.relay.specs.Posts.{at}
 use Rattle.relay.specs.Valid.{valid}
 use Rattle.relay.specs.declared.Head.{Head}
 use Rattle.relay.specs.declared.Post.{Post}
-use Rattle.relay.specs.declared.Told.{Told}
 use Rattle.relay.proofs.Frame.{answer_is}
 use Rattle.relay.proofs.Steps.{event_invalid}
 use Rattle.relay.proofs.Truth.{split}
-use Rattle.row.specs.Row.{line_of, line_to, stood, event_row}
+use Rattle.row.specs.Row.{line_of, stood, event_row}
 use Rattle.row.specs.declared.Row.{Row}
-use Rattle.row.specs.declared.Stood.{Stood}
 use Rattle.row.proofs.Acts.{back}
-use Rattle.tracks.specs.Circuit.{polarised, circuit_busy, circuit_ok, apart, valid_two, facing_of, hinders, met, at_last, answer_on, event_on}
+use Rattle.tracks.specs.Circuit.{polarised, circuit_busy, circuit_ok, apart, valid_two, facing_of, hinders, met, at_last, event_on}
 use Rattle.tracks.proofs.Steps.{on_invalid, on-alone, on-busy}
 use Rattle.rows.specs.Rows.{beside_ok, event_beside}
 

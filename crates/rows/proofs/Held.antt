@@ -1,16 +1,15 @@
 -- Two rows that hold lines and blank records past them: an event on either track leaves them so, with the lines that the event leaves. And starting, by its answer.
 -- Assumes nothing.
 use Prim.Native.Nat.{ℕ, ◌≤◌}
-use mathlib.Core.Path.{◌≡◌, refl, sym, ap, ◌∙◌}
+use mathlib.Core.Path.{◌≡◌, refl}
 use mathlib.Core.List.{List}
 use lib.ListN.{length}
 use Rattle.relay.proofs.Frame.{length-stays}
-use Rattle.relay.specs.Line.{After}
 use Rattle.relay.specs.declared.Head.{Head}
 use Rattle.relay.specs.declared.Post.{Post}
 use Rattle.row.specs.Row.{most, row_of}
 use Rattle.row.proofs.Held.{held-line, held_to}
-use Rattle.tracks.specs.Circuit.{AfterTwo, event_on, event_two}
+use Rattle.tracks.specs.Circuit.{event_on, event_two}
 use Rattle.tracks.proofs.Kept.{on_cases, two_cases}
 use Rattle.rows.specs.Rows.{stood_two, event_rows}
 

@@ -1,4 +1,7 @@
 // Two rows by value over one circuit, for callers that keep both lines themselves: the same definitions as over two lent rows.
+
+#![tactic(auto)]
+
 ghost use Rattle.std.specs.Prelude.{◌≡◌, [], ◌-◌, length};
 ghost use Rattle.row.specs.Row.{line_of, row_of};
 ghost use Rattle.tracks.specs.Circuit.{apart, valid_two, nowhere};
@@ -10,7 +13,7 @@ use relay::{Head, Told};
 use row::{Row, Stood};
 
 // What a call returns, and the two rows that it leaves.
-#[derive(Drop)]
+#[derive(Clone, Copy)]
 pub struct StoodTwo {
     pub told: Told,
     pub first: Row,
