@@ -10,7 +10,7 @@ use relay::{Head, Post, Told};
 pub const ROOM: usize = 33;
 
 // What a call returns, and the array that it leaves.
-#[derive(Drop)]
+#[derive(Clone, Copy)]
 pub struct Kept {
     pub told: Told,
     pub posts: [Post; ROOM],

@@ -1,4 +1,7 @@
-// The calls on a lent row of post records. None copies the row. C and Rust call them by these names: `include/desk.h`.
+// The calls on a lent row of post records. None copies the row. C calls them by `lent_c`: `include/desk.h` declares them.
+
+#![tactic(auto)]
+
 ghost use Rattle.std.specs.Prelude.{◌≡◌};
 ghost use Rattle.relay.specs.Line.{start_of, event_of, Gives};
 ghost use Rattle.relay.specs.Valid.{valid};
@@ -8,8 +11,7 @@ pub mod array;
 use relay::{Head, Post, Told};
 
 // Whether the line may be used: one pass over the records, left at the first that breaks a rule.
-#[unsafe(no_mangle)]
-pub extern "C" fn desk_valid(row: &[Post], s: Head) -> bool
+pub fn desk_valid(row: &[Post], s: Head) -> bool
     ensures { result ≡ valid row.now s }
 {
     let n = row.len();
@@ -29,8 +31,7 @@ pub extern "C" fn desk_valid(row: &[Post], s: Head) -> bool
 }
 
 // A fresh line from a table of kinds; refused, the row is as it was and the head is of zeros.
-#[unsafe(no_mangle)]
-pub extern "C" fn desk_start(row: &mut [Post], kinds: &[u32], stamp: u32) -> Told
+pub fn desk_start(row: &mut [Post], kinds: &[u32], stamp: u32) -> Told
     ensures { Gives (start_of row.old kinds.now stamp) result row.new }
 {
     let n = row.len();
@@ -46,8 +47,7 @@ pub extern "C" fn desk_start(row: &mut [Post], kinds: &[u32], stamp: u32) -> Tol
 }
 
 // One event: the post or section `place`, and at most one neighbour of it, altered in place; refused, the row is as it was.
-#[unsafe(no_mangle)]
-pub extern "C" fn desk_event(row: &mut [Post], s: Head, number: u32, place: u32, stamp: u32) -> Told
+pub fn desk_event(row: &mut [Post], s: Head, number: u32, place: u32, stamp: u32) -> Told
     ensures { Gives (event_of row.old s number place stamp) result row.new }
 {
     if !desk_valid(row, s) {

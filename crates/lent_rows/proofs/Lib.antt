@@ -1,9 +1,3 @@
 pub mod Tested
 pub mod Started
-pub mod Shown
-pub mod Valid
-pub mod Two
-pub mod On
-pub mod May
-pub mod Begun
 pub mod One

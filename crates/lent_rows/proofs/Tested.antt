@@ -18,7 +18,7 @@ use Rattle.relay.specs.declared.Head.{Head}
 use Rattle.relay.specs.declared.Post.{Post}
 use Rattle.relay.proofs.Truth.{and_facts, split}
 use Rattle.tracks.specs.Circuit.{polarised, vibrated, circuit_ok, facing, valid_two, no_track, nowhere}
-use Rattle.tracks.proofs.Together.{circuit_iff}
+use Rattle.tracks.proofs.CircuitKinds.{circuit_iff}
 use Rattle.tracks.proofs.Tested.{not_circuit, not_long}
 
 module _ (c : ℕ) (l k : List Post) where

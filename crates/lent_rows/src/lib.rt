@@ -1,4 +1,7 @@
-// The calls on two lent rows of post records, the two tracks over one circuit. None copies a row. C and Rust call them by these names.
+// The calls on two lent rows of post records, the two tracks over one circuit. None copies a row. C calls them by `lent_rows_c`.
+
+#![tactic(auto)]
+
 ghost use Rattle.std.specs.Prelude.{◌≡◌, ◌&&◌, eqb, length};
 ghost use Rattle.relay.specs.Kinds.{table_ok};
 ghost use Rattle.relay.specs.Line.{Gives};
@@ -15,8 +18,7 @@ fn alike(n: usize, m: usize, circuit: u32) -> bool
 }
 
 // Whether the two tracks may be used together: each row by itself, then on polarised current one pass over the sections, left at the first where both have a signal under way.
-#[unsafe(no_mangle)]
-pub extern "C" fn desk_valid_tracks(first: &[Post], second: &[Post], circuit: u32, s: Head) -> bool
+pub fn desk_valid_tracks(first: &[Post], second: &[Post], circuit: u32, s: Head) -> bool
     ensures { result ≡ valid_two circuit first.now second.now s }
 {
     let n = first.len();
@@ -75,8 +77,7 @@ fn event_on(
 }
 
 // One event on either track, 0 for the first and 1 for the second; the other row stays, and refused, both do.
-#[unsafe(no_mangle)]
-pub extern "C" fn desk_event_tracks(
+pub fn desk_event_tracks(
     first: &mut [Post],
     second: &mut [Post],
     circuit: u32,
@@ -111,8 +112,7 @@ fn may_start_tracks(n: usize, m: usize, kinds: &[u32], others: &[u32], circuit: 
 }
 
 // Two fresh lines from two tables of kinds; refused, both rows are as they were and the head is of zeros. All is tested before the first store.
-#[unsafe(no_mangle)]
-pub extern "C" fn desk_start_tracks(
+pub fn desk_start_tracks(
     first: &mut [Post],
     second: &mut [Post],
     kinds: &[u32],
