@@ -1,3 +1,4 @@
 pub mod Value
+pub mod NextByte
 pub mod Numerals
 pub mod Stores

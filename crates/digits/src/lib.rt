@@ -1,4 +1,7 @@
 // Numbers of 64 bits in decimal: how long, put into lent bytes, and read a byte at a time.
+
+#![tactic(auto)]
+
 ghost use Rattle.std.specs.Prelude.{◌+◌, ◌≤◌, ◌≡◌, length};
 ghost use Rattle.digits.specs.Digits.{digits};
 ghost use Rattle.digits.specs.Numerals.{with_digit};

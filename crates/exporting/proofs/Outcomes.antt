@@ -11,7 +11,7 @@ use lib.ListN.{length, drop}
 use Rattle.relay.proofs.Truth.{by}
 use Rattle.digits.specs.Texts.{stored}
 use Rattle.sheet.specs.Layout.{room_short}
-use Rattle.sheet.specs.Reading.{accepted, verdict, verdict_of, refused}
+use Rattle.sheet.specs.Reading.{accepted, verdict, verdict_of}
 use Rattle.exporting.specs.Exporting as spec
 use Rattle.exporting.specs.Exporting.{done, text_for, export_of, export_into, Exports}
 use Rattle.exporting.specs.declared.Exported.{Exported}

@@ -1,7 +1,7 @@
 -- Export where sheets of one track and of two are read, by its outcomes: refused as reading refuses; 20 for a good sheet of two tracks, whatever the output; else what export makes of a sheet of one track. Of any sheet one outcome, and on a refusal nothing is written.
 -- Assumes nothing.
 use Prim.Native.Nat.{ℕ, ◌≤◌}
-use mathlib.Core.Path.{◌≡◌, refl, sym, ap, ◌∙◌}
+use mathlib.Core.Path.{◌≡◌, refl, sym, ◌∙◌}
 use mathlib.Core.Bool.{not}
 use mathlib.Core.List.{List}
 use native.Mathlib.Omega.{arith}

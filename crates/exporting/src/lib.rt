@@ -1,4 +1,7 @@
 // The register of a sheet as comma-separated text by RFC 4180, put into lent bytes. 02, item 3.
+
+#![tactic(auto)]
+
 ghost use Rattle.std.specs.Prelude.{◌+◌, ◌≤◌, ◌<◌, ◌≡◌, length};
 ghost use Rattle.digits.specs.Texts.{Put};
 ghost use Rattle.sheet.specs.Reading.{verdict_at};
@@ -12,7 +15,7 @@ pub const PAGE: usize = 34 + 16 + 32 * 10 + MOST_ENTRIES * 26;
 
 // What export returns: the number, block and position of a refusal, or zeros and how long the text is.
 #[repr(C)]
-#[derive(Drop)]
+#[derive(Clone, Copy)]
 pub struct Exported {
     pub number: u32,
     pub block: u32,
@@ -21,7 +24,7 @@ pub struct Exported {
 }
 
 // The five fields of a record, each by a mark: 0 for an empty one, n + 1 for the number n.
-#[derive(Drop)]
+#[derive(Clone, Copy)]
 struct Fields {
     position: u64,
     event: u64,

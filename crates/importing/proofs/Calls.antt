@@ -20,7 +20,7 @@ use Rattle.sheet.proofs.Writable.{Writable}
 use Rattle.register.specs.Register.{exported, RightText}
 use Rattle.register.proofs.Import.{export_right, right-accepted}
 use Rattle.register.proofs.Sheets.{writable-right}
-use Rattle.importing.specs.Importing.{refused, imported, import_of, import_into, Imports, closed, settle_of, settle_into}
+use Rattle.importing.specs.Importing.{imported, import_of, import_into, Imports, closed, settle_of, settle_into}
 use Rattle.importing.specs.Rooms.{Fed, fed_at, fed, fed_pieces, joined}
 use Rattle.importing.specs.Steps.{begun}
 use Rattle.importing.specs.declared.Imported.{Imported}

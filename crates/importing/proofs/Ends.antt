@@ -13,10 +13,9 @@ use Rattle.relay.specs.Choice.{pick}
 use Rattle.relay.proofs.Truth.{and_facts, split}
 use Rattle.sheet.specs.Entry.{entry}
 use Rattle.sheet.specs.Sheet.{Sheet}
-use Rattle.digits.specs.Digits.{value}
 use Rattle.digits.specs.Numerals.{marked}
 use Rattle.register.specs.Lexer.{Lexed, lexed, snoc}
-use Rattle.register.specs.Reading.{Read, nothing, num, event_in, stands, taken_as, after}
+use Rattle.register.specs.Reading.{Read, nothing, num, event_in, stands, taken_as}
 use Rattle.register.specs.Records.{kind_records, event_records, records}
 use Rattle.register.specs.Texts.{Field, said, said_in, said_all}
 use Rattle.register.specs.declared.Mode.TheVariants.{Start, Broken}

@@ -5,9 +5,7 @@ use mathlib.Core.Path.{◌≡◌, refl, sym, ap}
 use mathlib.Core.Logic.{◌⊎◌}
 use mathlib.Core.List.{List, [], ◌∷◌}
 use native.Mathlib.Omega.{arith}
-use borrow.Author.Tests.{lt-ltb}
 use lib.ListN.{length, length-append}
-use Rattle.relay.proofs.Truth.{least_or_below}
 use Rattle.digits.specs.Numerals.{marked}
 use Rattle.digits.proofs.Numerals.{marked_more}
 use Rattle.register.specs.Lexer.{adding, field_of, Lexed, lexed, snoc}
@@ -24,6 +22,7 @@ use Rattle.importing.specs.declared.steps.Marks.{Marks}
 use Rattle.importing.specs.declared.steps.State.{State}
 use Rattle.importing.proofs.Judged.{mark_of}
 use Rattle.importing.proofs.Kept.{Kept, same_kinds, same_events}
+use Rattle.importing.proofs.Places.{place_more}
 use Rattle.importing.proofs.Letters.{lettered, lettered_more}
 
 -- ---- marks of fields
@@ -61,10 +60,6 @@ marks-snoc g i k [] f = let e : i + 0 ≡ i = omega arith in rw e
 marks-snoc g i k (x ∷ fs) f =
     let e : i + suc (length fs) ≡ suc i + length fs = omega arith in
     rw e (marks-snoc g (suc i) (pushed k (mark_of g i (said x))) fs f)
-
-place_more : (n : ℕ) → place_next (min 6 n) ≡ min 6 (n + 1)
-unfolding place_next
-place_more n = least_or_below 6 n (λ h. let e : min 6 n ≡ 6 = omega arith in rw e (omega arith)) (λ h. let e : min 6 n ≡ n = omega arith in rw (e, lt-ltb n 6 h) (omega arith))
 
 said-field : (m : Mode) (f : List ℕ) → said (field_of m f) ≡ f
 said-field Start f = refl

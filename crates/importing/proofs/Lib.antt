@@ -5,6 +5,7 @@ pub mod Counts
 pub mod Fold
 pub mod Kept
 pub mod Told
+pub mod Places
 pub mod Follows
 pub mod Ends
 pub mod Runs

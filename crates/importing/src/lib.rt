@@ -1,5 +1,8 @@
 // A register's text brought back to a sheet: taken a byte at a time, by value, and the sheet that it says written.
 // 02, item 3. `import` takes a text in lent bytes; a program that reads a text in pieces calls `feed` for each, and then `settle`.
+
+#![tactic(auto)]
+
 ghost use Rattle.std.specs.Prelude.{◌≡◌, length};
 ghost use Rattle.importing.specs.Importing.{refused, is_start, is_whole, is_done, record_at, record_in, closed, settle_of, settle_into, Settles, Imports};
 ghost use Rattle.importing.specs.Rooms.{entry_in, fed_at, kept_kind, kept_event, fed_next, Feeds};
@@ -15,7 +18,7 @@ use steps::{Marks, State};
 
 // What import returns: the number, at which record (of 28; the header is 1; else 0), and of a sheet that was written how many bytes it has.
 #[repr(C)]
-#[derive(Drop)]
+#[derive(Clone, Copy)]
 pub struct Imported {
     pub number: u32,
     pub at: u64,

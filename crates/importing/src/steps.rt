@@ -9,7 +9,7 @@ use digits::WRONG;
 use register::{Act, Mode, Stage};
 
 // The marks of the last five fields, in their order: of a header's field how many letters of its word it has, of another's what `digits` says.
-#[derive(Drop)]
+#[derive(Clone, Copy)]
 pub struct Marks {
     pub a: u64,
     pub b: u64,
@@ -19,7 +19,7 @@ pub struct Marks {
 }
 
 // Where the next byte stands, which record and which field it is of, and the mark of that field so far; the marks of the fields before it; and of the records that stand the start stamp, how many posts and how many events.
-#[derive(Drop)]
+#[derive(Clone, Copy)]
 pub struct State {
     pub mode: Mode,
     pub stage: Stage,

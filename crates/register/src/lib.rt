@@ -1,11 +1,14 @@
 // The register in comma-separated text: which bytes mean something, and what each byte does where it stands.
 // What a right text is, and what is read of any text, stands in specs/; the theorems stand in proofs/.
+
+#![tactic(auto)]
+
 ghost use Rattle.std.specs.Prelude.{◌≡◌};
 ghost use Rattle.register.specs.Lexer.{class, action};
 ghost use Rattle.register.specs.declared.Class.TheVariants.{Quote, Comma, Cr, Lf, Other};
 
 // The bytes that mean something to RFC 4180, and the others.
-#[derive(Drop)]
+#[derive(Clone, Copy)]
 pub enum Class {
     Quote,
     Comma,
@@ -18,7 +21,7 @@ pub enum Class {
 pub const WRONG_RECORD: u32 = 28;
 
 // Where the next byte stands: first of a field; in a field; in quotes; after a quote in quotes; after CR; past a break.
-#[derive(Drop)]
+#[derive(Clone, Copy)]
 pub enum Mode {
     Start,
     Plain,
@@ -29,7 +32,7 @@ pub enum Mode {
 }
 
 // What a byte does.
-#[derive(Drop)]
+#[derive(Clone, Copy)]
 pub enum Act {
     Open,
     Add,
@@ -41,7 +44,7 @@ pub enum Act {
 }
 
 // Which record of a register is next.
-#[derive(Drop)]
+#[derive(Clone, Copy)]
 pub enum Stage {
     AtHeader,
     AtStart,
