@@ -1,4 +1,7 @@
 // The event sheet in lent bytes: tested, read into lent room, and written.
+
+#![tactic(auto)]
+
 ghost use Rattle.std.specs.Prelude.{◌≡◌};
 ghost use Rattle.sheet.specs.Sheet.{table_words};
 ghost use Rattle.sheet.specs.Layout.{two_tracks};

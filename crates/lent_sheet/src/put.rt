@@ -16,7 +16,7 @@ use sheet::layout::{
 };
 
 // Two words of an event block: an event's word and its stamp.
-#[derive(Drop)]
+#[derive(Clone, Copy)]
 struct Pair {
     word: u32,
     stamp: u32,

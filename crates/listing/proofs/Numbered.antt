@@ -1,22 +1,17 @@
 -- The listing line by line: line i of the events is event i's, at position i + 1, and line i of the sections is section i's.
 -- One event or section more is one line more. The fields of an event's line are in the order of the rule, and the last is the track's, where there are two.
 -- Assumes nothing.
-use Prim.Native.Nat.{ℕ, zero, suc, ◌+◌, ◌-◌, ◌≤◌, ◌<◌}
-use mathlib.Core.Path.{◌≡◌, refl, sym, ap, ◌∙◌}
+use Prim.Native.Nat.{ℕ, zero, suc, ◌+◌, ◌≤◌, ◌<◌}
+use mathlib.Core.Path.{◌≡◌, refl, ap, ◌∙◌}
 use mathlib.Core.List.{List, [], ◌∷◌, ◌++◌}
 use native.Mathlib.Numerals.{add-one}
 use native.Mathlib.Omega.{arith}
 use borrow.Author.Tests.{eq-eqb}
 use lib.ListN.{length, get_or, take}
-use lib.Seq.{take_all, take-length}
 use Rattle.relay.specs.Posts.{at}
 use Rattle.relay.specs.declared.Post.{Post}
 use Rattle.sheet.specs.Layout.{one_track, two_tracks}
 use Rattle.sheet.specs.Reading.{decode_tracked}
-use Rattle.sheet.specs.Sheet.{Tracked}
-use Rattle.tracks.specs.Circuit.{track_one, track_two}
-use Rattle.working.specs.Run.{marked}
-use Rattle.working.specs.Working.{end_of, worked_tracked}
 use Rattle.listing.specs.Lines.{space, line_feed, spaced, track_named, event_line}
 use Rattle.listing.specs.Listing.{event_lines, section_lines, lines_of, answer_to, listing_of}
 use Rattle.digits.specs.Digits.{digits}
@@ -51,45 +46,25 @@ one_named track = refl
 abbrev pub event_text : ℕ → List (List ℕ) → ℕ → List ℕ
 event_text form es i = line_of_event form (i + 1) (get_or es i [])
 
-first_events : (form : ℕ) (es : List (List ℕ)) (n : ℕ) → n ≤ length es → event_lines form 1 (take n es) ≡ joined (event_text form es) n
+pub first_events : (form : ℕ) (es : List (List ℕ)) (n : ℕ) → n ≤ length es → event_lines form 1 (take n es) ≡ joined (event_text form es) n
 unfolding joined
 first_events form es zero h = events_none form 1
 first_events form es (suc n) h =
     rw (← add-one n) (events_more form 1 es n (n + 1) (omega arith) (omega arith))
     ∙ ap (λ (t : List ℕ). t ++ event_text form es n) (first_events form es n (omega arith))
 
--- line i is event i's, at position i + 1
-pub event-lines : (form : ℕ) (es : List (List ℕ)) → event_lines form 1 es ≡ joined (event_text form es) (length es)
-event-lines form es = ap (event_lines form 1) (sym (take-length es)) ∙ first_events form es (length es) (omega arith)
-
 -- ---- sections
 abbrev pub section_text : List ℕ → List Post → ℕ → List ℕ
 section_text track ps i = line_of_section track i (at ps i) (at ps (i + 1))
 
-first_sections : (track : List ℕ) (ps : List Post) (n : ℕ) → n + 1 ≤ length ps → section_lines track 0 (take (n + 1) ps) ≡ joined (section_text track ps) n
+pub first_sections : (track : List ℕ) (ps : List Post) (n : ℕ) → n + 1 ≤ length ps → section_lines track 0 (take (n + 1) ps) ≡ joined (section_text track ps) n
 unfolding joined
 first_sections track ps zero h = sections_first track ps
 first_sections track ps (suc n) h =
     rw (← add-one n) (sections_more track ps n (n + 1) refl (omega arith))
     ∙ ap (λ (t : List ℕ). t ++ section_text track ps n) (first_sections track ps n (omega arith))
 
--- line i is section i's, between the posts i and i + 1
-pub section-lines : (track : List ℕ) (ps : List Post) → section_lines track 0 ps ≡ joined (section_text track ps) (length ps - 1)
-unfolding section_lines joined
-section-lines track [] = refl
-section-lines track (p ∷ ps) =
-    let n = length (p ∷ ps) - 1 in
-    ap (section_lines track 0) (sym (take_all (n + 1) (p ∷ ps) (omega arith))) ∙ first_sections track (p ∷ ps) n (omega arith)
-
 -- ---- the whole listing of a sheet that is worked
-pub lines-joined : (t : Tracked)
-    → lines_of t
-    ≡ joined (event_text t.form (marked (worked_tracked t).events t.tracks)) (length (marked (worked_tracked t).events t.tracks))
-    ++ (joined (section_text (track_named t.form track_one) (end_of t).first) (length (end_of t).first - 1)
-    ++ joined (section_text (track_named t.form track_two) (end_of t).second) (length (end_of t).second - 1))
-unfolding lines_of
-lines-joined t = rw (event-lines t.form (marked (worked_tracked t).events t.tracks), section-lines (track_named t.form track_one) (end_of t).first, section-lines (track_named t.form track_two) (end_of t).second) refl
-
 pub listing-lines : (s : List ℕ) → (answer_to s).number ≡ 0 → listing_of s ≡ lines_of (decode_tracked s)
 unfolding listing_of
 listing-lines s z = rw (eq-eqb (answer_to s).number 0 z) refl

@@ -1,4 +1,7 @@
 // The listing of a sheet, put into a lent page. 01, 'The program and one listing'.
+
+#![tactic(auto)]
+
 ghost use Rattle.std.specs.Prelude.{◌+◌, ◌*◌, ◌≤◌, ◌≡◌, eqb, length};
 ghost use Rattle.relay.specs.Choice.{pick};
 ghost use Rattle.row.specs.Row.{line_of};

@@ -3,15 +3,13 @@
 -- Assumes nothing.
 use Prim.Native.Nat.{ℕ}
 use mathlib.Core.Path.{◌≡◌, refl, sym, ◌∙◌}
-use mathlib.Core.Bool.{true, false, false≢true, ◌||◌}
+use mathlib.Core.Bool.{true, false, false≢true}
 use mathlib.Core.List.{List}
-use borrow.Author.Tests.{eqb-true}
-use lib.Dec.{eqb}
 use Rattle.relay.proofs.Accepted.{event_cases}
 use Rattle.relay.proofs.Cases.{Taken, reverse, normalise, pass, pass-idle, strike_block, strike_close, strike_idle, announce, release, garage, announcement_arrives, announcement-jammed, release_arrives, announcement-lost, release-lost, restore, button_jams, button_freed, accepted-case}
 use Rattle.relay.proofs.Frame.{taken_replaces}
 use Rattle.relay.proofs.Touched.{other-stays}
-use Rattle.relay.proofs.Truth.{or_facts, equal_or_not}
+use Rattle.relay.proofs.Truth.{equal_or_not}
 use Rattle.relay.proofs.Word.{relays}
 use Rattle.relay.specs.Answers.{lDown, rlDown, rlUp}
 use Rattle.relay.specs.Kinds.{blocks_at_pedal}
@@ -21,7 +19,7 @@ use Rattle.relay.specs.Relays.{L, RL, W314, W241, up}
 use Rattle.relay.specs.declared.Head.{Head}
 use Rattle.relay.specs.declared.Pair.{Pair}
 use Rattle.relay.specs.declared.Post.{Post}
-use Rattle.why.specs.Why.{speaks, so}
+use Rattle.why.specs.Why.{so}
 
 -- ---- what is told
 -- event m at post or section i, taken where post p is q, has made what refusal n says so
@@ -37,7 +35,7 @@ pub data Cause (m i p : ℕ) (q : Post) : ℕ → Type 0 where
   restored : m ≡ 10 → i ≡ p → Cause m i p q rlUp
 
 -- ---- what event m, which names i, may make of L and RL at post p: q before it, q' after
-data Moves (m i p : ℕ) (q q' : Post) : Type 0 where
+pub data Moves (m i p : ℕ) (q q' : Post) : Type 0 where
   still : up L q'.word ≡ up L q.word → up RL q'.word ≡ up RL q.word → Moves m i p q q'
   strikes : m ≡ 4 → i ≡ p → blocks_at_pedal (form q) ≡ true → up RL q'.word ≡ up RL q.word → Moves m i p q q'
   sends : m ≡ 5 → i ≡ p → up RL q'.word ≡ false → Moves m i p q q'
@@ -69,7 +67,7 @@ moves-other : {m i j p : ℕ} {q o : Post} {b : Pair} → Taken i j q o m b → 
 moves-other T = still (other-stays T L refl) (other-stays T RL refl)
 
 -- any post, by any event, taken or refused
-moves : (l : List Post) (s : Head) (m i t p : ℕ) → Moves m i p (at l p) (at (event_of l s m i t).line p)
+pub moves : (l : List Post) (s : Head) (m i t p : ℕ) → Moves m i p (at l p) (at (event_of l s m i t).line p)
 moves l s m i t p =
     event_cases (λ a. Moves m i p (at l p) (at a.line p)) l s m i t
     (λ c.
@@ -82,37 +80,23 @@ moves l s m i t p =
 
 -- ---- what made it so
 module _ {m i p : ℕ} {q q' : Post} where
-  cause_8 : Moves m i p q q' → so lDown q.word ≡ false → so lDown q'.word ≡ true → Cause m i p q lDown
+  pub cause_8 : Moves m i p q q' → so lDown q.word ≡ false → so lDown q'.word ≡ true → Cause m i p q lDown
   unfolding so
   cause_8 (still a b) f g = absurd (false≢true (sym f ∙ rw (← a) g))
   cause_8 (strikes a b c d) f g = struck a b c
   cause_8 (sends a b c) f g = announced_8 a b
   cause_8 (frees a b c) f g = absurd (false≢true (rw b at g))
 
-  cause_9 : Moves m i p q q' → so rlDown q.word ≡ false → so rlDown q'.word ≡ true → Cause m i p q rlDown
+  pub cause_9 : Moves m i p q q' → so rlDown q.word ≡ false → so rlDown q'.word ≡ true → Cause m i p q rlDown
   unfolding so
   cause_9 (still a b) f g = absurd (false≢true (sym f ∙ rw (← b) g))
   cause_9 (strikes a b c d) f g = absurd (false≢true (sym f ∙ rw (← d) g))
   cause_9 (sends a b c) f g = announced_9 a b
   cause_9 (frees a b c) f g = absurd (false≢true (rw c at g))
 
-  cause_13 : Moves m i p q q' → so rlUp q.word ≡ false → so rlUp q'.word ≡ true → Cause m i p q rlUp
+  pub cause_13 : Moves m i p q q' → so rlUp q.word ≡ false → so rlUp q'.word ≡ true → Cause m i p q rlUp
   unfolding so
   cause_13 (still a b) f g = absurd (false≢true (sym f ∙ rw (← b) g))
   cause_13 (strikes a b c d) f g = absurd (false≢true (sym f ∙ rw (← d) g))
   cause_13 (sends a b c) f g = absurd (false≢true (sym c ∙ g))
   cause_13 (frees a b c) f g = a
-
-  causes : (n : ℕ) → speaks n ≡ true → Moves m i p q q' → so n q.word ≡ false → so n q'.word ≡ true → Cause m i p q n
-  unfolding speaks
-  causes n a =
-      or_facts (eqb n lDown) (eqb n rlDown || eqb n rlUp)
-      (λ z. rw (eqb-true n lDown z) cause_8)
-      (or_facts (eqb n rlDown) (eqb n rlUp) (λ z. rw (eqb-true n rlDown z) cause_9) (λ z. rw (eqb-true n rlUp z) cause_13))
-      a
-
--- an event after which it is so at post p, where before it it was not
-pub cause : (l : List Post) (s : Head) (m i t p n : ℕ) → speaks n ≡ true → so n (at l p).word ≡ false
-    → so n (at (event_of l s m i t).line p).word ≡ true
-    → Cause m i p (at l p) n
-cause l s m i t p n a = causes n a (moves l s m i t p)

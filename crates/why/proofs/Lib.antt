@@ -7,6 +7,7 @@ pub mod Made
 pub mod Start
 pub mod OnRows
 pub mod Cause
+pub mod Causes
 pub mod Named
 pub mod One
 pub mod OneTrack

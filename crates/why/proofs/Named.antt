@@ -32,7 +32,8 @@ use Rattle.working.specs.Run.{track_of, marked, next_by, run_by}
 use Rattle.why.specs.Why.{event_at, track_at, begun_of, state_after, line_at, speaks, so, last_made, as_worked, since, since_when, since_up_to}
 use Rattle.why.specs.declared.Since.{Since}
 use Rattle.why.proofs.Asked.{below_first, past_last, other-answer, is_asked, since-unread, since_not_asked, since_not_worked, since_in_lem}
-use Rattle.why.proofs.Cause.{Cause, cause}
+use Rattle.why.proofs.Cause.{Cause}
+use Rattle.why.proofs.Causes.{cause}
 use Rattle.why.proofs.Made.{Made, Always, only_one, not_always, last_made_lem}
 use Rattle.why.proofs.Right.{right_iff, wrong_at, wrong-some}
 use Rattle.why.proofs.Says.{Says, says}

@@ -1,7 +1,7 @@
 -- A sheet of one track is asked as it was before there were two: every event is on its one track, and what stands after its events is what stands in the run of one track, with no line beside it.
 -- Assumes nothing.
 use Prim.Native.Nat.{ℕ, ◌-◌}
-use mathlib.Core.Path.{◌≡◌, refl, ◌∙◌}
+use mathlib.Core.Path.{◌≡◌, refl}
 use mathlib.Core.List.{List, []}
 use native.Mathlib.Omega.{arith}
 use lib.ListN.{take}

@@ -8,7 +8,8 @@ use mathlib.Core.List.{List}
 use borrow.Author.Tests.{eqb-true}
 use lib.Dec.{eqb}
 use lib.ListN.{length}
-use Rattle.relay.proofs.Given.{beside, given_beside, ahead, given_ahead, answer_given}
+use Rattle.relay.proofs.Given.{answer_given}
+use Rattle.relay.proofs.GivenForms.{beside, given_beside, ahead, given_ahead}
 use Rattle.relay.proofs.Truth.{facts, or_facts}
 use Rattle.relay.specs.Answers.{noSuchPlace, noDevice, lDown, rlDown, rlUp}
 use Rattle.relay.specs.Given.{Row, refused_as, reasons, event_reasons}

@@ -10,7 +10,7 @@ use borrow.Author.Tests.{ne_eqb}
 use lib.Dec.{eqb}
 use lib.ListN.{length, take}
 use Rattle.relay.proofs.Fresh.{length-fresh}
-use Rattle.relay.proofs.Given.{forms}
+use Rattle.relay.proofs.GivenForms.{forms}
 use Rattle.relay.proofs.Truth.{split}
 use Rattle.relay.proofs.Word.{relays}
 use Rattle.relay.specs.Answers.{lDown, rlDown, rlUp}

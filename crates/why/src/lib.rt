@@ -1,4 +1,7 @@
 // Tell the pupil why: for a worked sheet, of one track or of two, and an event of it that was refused with 8, 9 or 13, the position of the event that put the relay in that state. 02, items 1 and 7.
+
+#![tactic(auto)]
+
 ghost use Rattle.std.specs.Prelude.{◌≤◌, ◌≡◌, true, not, ◌&&◌, eqb, length};
 ghost use Rattle.relay.specs.Choice.{pick};
 ghost use Rattle.relay.specs.Posts.{at};
@@ -16,7 +19,7 @@ pub const NO_SUCH_REFUSAL: u32 = 29;
 
 // A refusal with its block and the event's position in that block, as reading gives them; or 0 and 0 with the position in the sheet, from 1, of the event since which it is so; 0 is the start.
 #[repr(C)]
-#[derive(Drop)]
+#[derive(Clone, Copy)]
 pub struct Since {
     pub number: u32,
     pub block: u32,

@@ -1,6 +1,6 @@
 -- The line of a run stays one of at most 32 posts, and an event on its row is the run's next event.
 -- Assumes nothing.
-use Prim.Native.Nat.{ℕ, ◌+◌, ◌≤◌}
+use Prim.Native.Nat.{ℕ, ◌≤◌}
 use mathlib.Core.Path.{◌≡◌}
 use mathlib.Core.Bool.{true}
 use mathlib.Core.List.{List}
@@ -12,7 +12,7 @@ use Rattle.relay.specs.Line.{event_of}
 use Rattle.row.proofs.Held.{held-event}
 use Rattle.row.proofs.Starts.{table-few}
 use Rattle.row.specs.Row.{most, row_of, stood, event_row}
-use Rattle.working.specs.Run.{begun, next, run}
+use Rattle.working.specs.Run.{begun, run}
 use Rattle.working.proofs.Steps.{run_long}
 
 -- an event on the row of a run is the run's next event

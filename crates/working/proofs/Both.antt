@@ -1,33 +1,29 @@
 -- A session of a sheet of either form on two rows by value: where it begins, and an event on its rows is the session's next event.
 -- Assumes nothing.
-use Prim.Native.Nat.{ℕ, zero, suc, ◌+◌, ◌-◌, ◌*◌, ◌/◌, ◌%◌, ◌≤◌, ◌<◌}
+use Prim.Native.Nat.{ℕ, zero, suc, ◌+◌, ◌/◌, ◌%◌, ◌≤◌, ◌<◌}
 use mathlib.Core.Path.{◌≡◌, refl, sym, ap, ◌∙◌}
-use mathlib.Core.Bool.{Bool, true, false, ◌&&◌, ◌||◌}
+use mathlib.Core.Bool.{Bool, true, false, ◌&&◌}
 use mathlib.Core.List.{List, [], ◌∷◌, ◌++◌}
 use native.Mathlib.Omega.{arith}
-use borrow.Author.Tests.{eq-eqb, ne_eqb, le-leb, lt-leb, eqb-true}
+use borrow.Author.Tests.{eq-eqb, ne_eqb, lt-leb}
 use lib.Dec.{eqb, leb}
-use lib.ListN.{length, get_or, take, drop, length-drop}
+use lib.ListN.{length, get_or, drop, length-drop}
 use lib.Seq.{length-take-le, get_or-drop}
 use Rattle.relay.proofs.Frame.{length-stays}
 use Rattle.relay.proofs.Fresh.{length-fresh}
 use Rattle.relay.proofs.Truth.{and_facts, split, equal_or_not, least_or_below}
-use Rattle.relay.specs.Answers.{taken, notValid}
-use Rattle.relay.specs.Choice.{pick}
 use Rattle.relay.specs.Kinds.{table_ok}
-use Rattle.relay.specs.Line.{told, head, fresh_line, event_of}
-use Rattle.relay.specs.declared.Head.{Head}
-use Rattle.relay.specs.declared.Post.{Post}
-use Rattle.row.specs.Row.{most, row_of, stood, start_row, event_row}
+use Rattle.relay.specs.Line.{head, fresh_line}
+use Rattle.row.specs.Row.{most, row_of, start_row}
 use Rattle.row.proofs.Held.{held-event}
-use Rattle.row.proofs.Starts.{table-few, start_refused, start_taken}
-use Rattle.rows.specs.Rows.{stood_two, none_stood, start_rows, event_rows}
+use Rattle.row.proofs.Starts.{table-few}
+use Rattle.rows.specs.Rows.{stood_two, none_stood, start_rows}
 use Rattle.rows.specs.declared.StoodTwo.{StoodTwo}
 use Rattle.rows.proofs.Held.{two_long, held_two}
 use Rattle.sheet.specs.Entry.{entry, number_of, post_of, answer_of, stamp_of}
 use Rattle.sheet.specs.Layout.{two_tracks}
 use Rattle.sheet.specs.Reading.{form_ok, tables_ok, table_fits}
-use Rattle.tracks.specs.Circuit.{AfterTwo, circuit_ok, event_two}
+use Rattle.tracks.specs.Circuit.{AfterTwo, circuit_ok}
 use Rattle.sheet.specs.Sheet.{first_kinds, second_kinds, circuit_of}
 use Rattle.working.specs.Run.{marked, begun_by, next_by, run_by}
 use Rattle.working.specs.Working.{begin_two, begin_by, step_by}

@@ -8,5 +8,6 @@ pub mod WorksTracks
 pub mod Twice
 pub mod One
 pub mod Named
+pub mod Verdicts
 pub mod Paper
 pub mod OneTrack

@@ -2,9 +2,8 @@
 -- An event of the sheet stands in one block at one place, and each place of a block up to its number is an event; so the first answered event stands in the first block that has one.
 -- Assumes nothing.
 use Prim.Native.Nat.{ℕ, ◌+◌, ◌-◌, ◌*◌, ◌/◌, ◌%◌, ◌≤◌, ◌<◌}
-use mathlib.Core.Path.{◌≡◌, refl, sym, ap, subst, ◌∙◌}
-use mathlib.Core.Logic.{◌↔◌}
-use mathlib.Core.Bool.{Bool, true, false}
+use mathlib.Core.Path.{◌≡◌, refl, sym, ap, ◌∙◌}
+use mathlib.Core.Bool.{false}
 use mathlib.Core.List.{List, []}
 use native.Mathlib.Omega.{arith}
 use borrow.Author.Tests.{eq-eqb, ne_eqb, eqb-true, eqb-false, lt-ltb, le-ltb, ltb-true, ltb-false, leb-true, leb-false, le-leb, lt-leb}
@@ -12,13 +11,13 @@ use lib.Dec.{eqb, ltb, leb}
 use lib.ListN.{length, get_or}
 use Rattle.relay.proofs.Truth.{split, least_or_below}
 use Rattle.sheet.proofs.Accepts.{accepted-good}
-use Rattle.sheet.proofs.First.{NamedSheet, verdict_iff, named_none}
+use Rattle.sheet.proofs.First.{NamedSheet, verdict_iff}
 use Rattle.sheet.proofs.Good.{Good}
 use Rattle.sheet.proofs.Rooms.{placed, all_events, events-long}
 use Rattle.sheet.proofs.Tabs.{get_d_tab}
 use Rattle.sheet.specs.Check.{word}
 use Rattle.sheet.specs.Entry.{answer_of, answer_in}
-use Rattle.sheet.specs.Layout.{per_block, unanswered, contents_wrong, room_short, upper_bits}
+use Rattle.sheet.specs.Layout.{per_block, unanswered, contents_wrong, room_short}
 use Rattle.sheet.specs.Reading.{verdict, verdict_up_to, blocks_in, entries_in, entry_in, decode}
 use Rattle.sheet.specs.declared.Verdict.{Verdict}
 use Rattle.working.proofs.Answers.{unanswered-before, answered-there}
@@ -95,7 +94,7 @@ module _ (most : ℕ) (s : List ℕ) (z : (verdict_up_to most s).number ≡ 0) w
       answered-there (decode s).events (omega (arith, long)) (rw (← q) (answer_at i h ∙ u (1 + i / per_block) (i % per_block) (omega arith) k (placed most s z i h).1))
 
 -- ---- what working refuses
-work_named : (most : ℕ) (s : List ℕ) (m : ℕ) → NamedWork most s m (work_verdict_up_to most s m)
+pub work_named : (most : ℕ) (s : List ℕ) (m : ℕ) → NamedWork most s m (work_verdict_up_to most s m)
 unfolding work_verdict_up_to
 work_named most s m =
     split (eqb (verdict_up_to most s).number 0)
@@ -126,7 +125,7 @@ none most s z u =
     let l : first most s z < entries_in s = omega (arith, long most s z) in
     absurd (after most s z (blocks_in (length s)) u (first most s z) l (placed most s z (first most s z) l).0 refl))
 
-names_work : (most : ℕ) (s : List ℕ) (m : ℕ) (v : Verdict) → NamedWork most s m v → work_verdict_up_to most s m ≡ v
+pub names_work : (most : ℕ) (s : List ℕ) (m : ℕ) (v : Verdict) → NamedWork most s m v → work_verdict_up_to most s m ≡ v
 unfolding work_verdict_up_to
 names_work most s m v (unread h b) = let e = (verdict_iff most s v).1 b in rw (e, ne_eqb v.number 0 h)
 names_work most s m v (answered b j z h k l q u) =
@@ -143,17 +142,3 @@ names_work most s m v (answered b j z h k l q u) =
     rw (eq-eqb (verdict_up_to most s).number 0 z, lt-ltb (first most s z) (length (decode s).events) (omega (arith, long most s z)), here)
 names_work most s m v (short z u h) = rw (eq-eqb (verdict_up_to most s).number 0 z, none most s z u, lt-leb (length s) m h)
 names_work most s m v (fits z u h) = rw (eq-eqb (verdict_up_to most s).number 0 z, none most s z u, le-leb (length s) m h)
-
--- 18 to 21 and 24 'given exactly when', with the block and the event's position: a verdict is that of working exactly when it may be named
-pub work_iff : (most : ℕ) (s : List ℕ) (m : ℕ) (v : Verdict) → (work_verdict_up_to most s m ≡ v) ↔ NamedWork most s m v
-work_iff most s m v = (λ e. subst (NamedWork most s m) e (work_named most s m), names_work most s m v)
-
--- 02, item 6: the position is 0 where no event's word is named
-work_none : (most : ℕ) (s : List ℕ) (m : ℕ) (v : Verdict) → NamedWork most s m v → (v.number ≡ upper_bits → ⊥) → v.position ≡ 0
-work_none most s m v (unread h b) n = named_none most s v b n
-work_none most s m v (answered b j z h k l q u) n = refl
-work_none most s m v (short z u h) n = refl
-work_none most s m v (fits z u h) n = refl
-
-pub work_names_none : (most : ℕ) (s : List ℕ) (m : ℕ) → ((work_verdict_up_to most s m).number ≡ upper_bits → ⊥) → (work_verdict_up_to most s m).position ≡ 0
-work_names_none most s m = work_none most s m (work_verdict_up_to most s m) (work_named most s m)

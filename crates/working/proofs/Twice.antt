@@ -4,13 +4,11 @@
 --     set_back_lem          a worked sheet with its answers set back to 31 is the sheet that was worked, byte for byte
 --     twice             a sheet worked twice is refused 20 at block 1, if it has an event
 -- Assumes nothing.
-use Prim.Native.Nat.{ℕ, zero, suc, ◌+◌, ◌/◌, ◌≤◌, ◌<◌}
-use mathlib.Core.Path.{◌≡◌, refl, sym, ap, subst, ◌∙◌}
-use mathlib.Core.Bool.{true, false}
+use Prim.Native.Nat.{ℕ, suc, ◌≤◌, ◌<◌}
+use mathlib.Core.Path.{◌≡◌, refl, sym, ap, ◌∙◌}
 use mathlib.Core.List.{List, [], ◌∷◌}
 use native.Mathlib.Omega.{arith}
-use borrow.Author.Tests.{eq-eqb, ne_eqb, eqb-true, lt-ltb}
-use lib.Dec.{eqb}
+use borrow.Author.Tests.{eq-eqb, ne_eqb, lt-ltb}
 use lib.ListN.{length, get_or, take}
 use Rattle.relay.proofs.Frame.{answer_is, answer-small}
 use Rattle.relay.specs.Line.{After}
@@ -23,9 +21,9 @@ use Rattle.sheet.proofs.TripWritten.{good_one}
 use Rattle.sheet.proofs.Trips.{written-accepted, written_read, read-written}
 use Rattle.sheet.proofs.Writable.{Writable}
 use Rattle.sheet.specs.Entry.{number_of, post_of, answer_of, stamp_of}
-use Rattle.sheet.specs.Layout.{per_block, unanswered, contents_wrong, one_track}
+use Rattle.sheet.specs.Layout.{unanswered, contents_wrong, one_track}
 use Rattle.sheet.specs.Reading.{verdict, verdict_of, blocks_in, entries_in, entry_in, decode}
-use Rattle.sheet.specs.Sheet.{Sheet, encode}
+use Rattle.sheet.specs.Sheet.{encode}
 use Rattle.working.proofs.Answers.{unanswered-before}
 use Rattle.working.proofs.Along.{said_at}
 use Rattle.working.proofs.Steps.{goes, answered-long}

@@ -11,11 +11,11 @@ use lib.ListN.{length, drop}
 use Rattle.relay.proofs.Frame.{answer_is, answer-small}
 use Rattle.relay.proofs.Truth.{and_facts}
 use Rattle.relay.specs.Kinds.{table_ok}
-use Rattle.relay.specs.Line.{After, head}
+use Rattle.relay.specs.Line.{After}
 use Rattle.row.specs.Row.{row_of}
 use Rattle.sheet.proofs.Rooms.{entries-few, events-long, all_kinds, all_events, table-right, bytes_are}
 use Rattle.sheet.proofs.Fields.{every}
-use Rattle.sheet.proofs.Packing.{unpacked-fields}
+use Rattle.sheet.proofs.PackingFields.{unpacked-fields}
 use Rattle.sheet.proofs.Tabs.{get_d_tab}
 use Rattle.sheet.specs.Entry.{number_of, post_of, answer_of, stamp_of, in_fields}
 use Rattle.sheet.specs.Layout.{per_block, contents_wrong, room_short, one_track}
@@ -25,7 +25,6 @@ use Rattle.sheet.specs.Writing.{all_in_fields, bytes_for, write_number, written,
 use Rattle.sheet.specs.declared.Verdict.{Verdict}
 use Rattle.working.specs.Run.{begun, next, run, answered_by, answered}
 use Rattle.working.specs.Working.{first_answered, worked, refused, work_verdict, work_verdict_up_to, work_of, worked_bytes, Works, ran_of, ran_events}
-use Rattle.working.specs.declared.Worked.{Worked}
 use Rattle.working.proofs.Steps.{answered-long}
 
 module _ (s : List ℕ) where

@@ -1,17 +1,17 @@
 -- Working a sheet of either form, by its outcomes: refused as reading, refused for an answer, refused for the output, or worked.
 -- Assumes nothing.
-use Prim.Native.Nat.{ℕ, suc, ◌+◌, ◌/◌, ◌≤◌, ◌<◌}
-use mathlib.Core.Path.{◌≡◌, refl, sym, ap, subst, ◌∙◌}
+use Prim.Native.Nat.{ℕ, ◌+◌, ◌/◌, ◌≤◌, ◌<◌}
+use mathlib.Core.Path.{◌≡◌, refl, ap, subst, ◌∙◌}
 use mathlib.Core.Bool.{Bool, true, false, not, ◌&&◌}
 use mathlib.Core.List.{List, [], ◌∷◌, ◌++◌}
 use native.Mathlib.Omega.{arith}
 use borrow.Author.Tests.{eq-eqb, ne_eqb, le-leb, lt-leb, lt-ltb, le-ltb, eqb-true, eqb-false}
 use lib.Dec.{eqb, ltb}
-use lib.ListN.{length, drop, get_or}
+use lib.ListN.{length, drop}
 use Rattle.relay.proofs.Frame.{answer_is, answer-small}
 use Rattle.relay.proofs.Truth.{and_facts, split}
 use Rattle.relay.specs.Choice.{pick}
-use Rattle.relay.specs.Line.{After, head, numbered, answer_of as lineAnswer}
+use Rattle.relay.specs.Line.{numbered, answer_of as lineAnswer}
 use Rattle.relay.specs.declared.Head.{Head}
 use Rattle.relay.specs.declared.Post.{Post}
 use Rattle.row.specs.Row.{row_of}
@@ -22,13 +22,12 @@ use Rattle.sheet.specs.Entry.{number_of, post_of, answer_of, stamp_of, in_fields
 use Rattle.sheet.specs.Layout.{per_block, contents_wrong, room_short, two_tracks}
 use Rattle.sheet.specs.Reading.{form_ok, table_fits, blocks_in, verdict, verdict_up_to, entries_in, decode, decode_tracked}
 use Rattle.sheet.specs.Sheet.{Tracked, circuit_of, encode_tracked}
-use Rattle.sheet.specs.Writing.{all_in_fields, tracks_fit, may_start, all_fit, bytes_for, size_number, tracked_number, leaves, WritesTracked}
+use Rattle.sheet.specs.Writing.{all_in_fields, tracks_fit, bytes_for, size_number, tracked_number, leaves, WritesTracked}
 use Rattle.sheet.specs.declared.Verdict.{Verdict}
-use Rattle.tracks.specs.Circuit.{AfterTwo, circuit_busy, valid_two, met, at_last, nowhere, no_track, answer_on, event_on, event_two}
+use Rattle.tracks.specs.Circuit.{AfterTwo, valid_two, met, at_last, nowhere, no_track, answer_on, event_on, event_two}
 use Rattle.tracks.proofs.Kept.{on_cases, two_cases}
 use Rattle.working.specs.Run.{marked, begun_by, next_by, run_by, answered_by, answers_by}
-use Rattle.working.specs.Working.{first_answered, ran_by, ran_events_by, end_of, worked_tracked, refused_tracks, end_tracks, work_verdict_up_to, work_tracks_of, worked_tracks_bytes, WorksTracks}
-use Rattle.working.specs.declared.RanTracks.{RanTracks}
+use Rattle.working.specs.Working.{first_answered, ran_by, ran_events_by, worked_tracked, refused_tracks, end_tracks, work_verdict_up_to, work_tracks_of, worked_tracks_bytes, WorksTracks}
 use Rattle.working.proofs.Along.{said-long}
 use Rattle.working.proofs.Both.{marked-long}
 use Rattle.working.proofs.Steps.{goes_by}

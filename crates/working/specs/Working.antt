@@ -1,9 +1,9 @@
 -- Working a sheet. 01, 'The event sheet': 'Working a sheet reads it whole first, refuses 20 at the first block with an answer other than 31, needs an output at least as long as the sheet (else 21), then writes the same sheet with answers filled and checks renewed, and changes nothing else.'
 -- Assumes nothing.
-use Rattle.std.specs.Prelude.{ℕ, suc, ◌+◌, ◌/◌, Bool, true, false, not, ◌&&◌, ◌≡◌, List, [], ◌∷◌, ◌++◌, eqb, leb, ltb, length, drop}
+use Rattle.std.specs.Prelude.{ℕ, suc, ◌+◌, ◌/◌, not, ◌&&◌, ◌≡◌, List, [], ◌∷◌, ◌++◌, eqb, leb, ltb, length, drop}
 use Rattle.relay.specs.Choice.{pick}
 use Rattle.relay.specs.Kinds.{table_ok}
-use Rattle.relay.specs.Line.{After, after, head, told, fresh_line}
+use Rattle.relay.specs.Line.{head, told, fresh_line}
 use Rattle.relay.specs.Answers.{taken, notValid}
 use Rattle.relay.specs.Valid.{h}
 use Rattle.relay.specs.declared.Head.{Head}

@@ -1,4 +1,7 @@
 // Working a sheet: its events taken one after the other from the fresh line of its table, and the answers written.
+
+#![tactic(auto)]
+
 ghost use Rattle.std.specs.Prelude.{◌≡◌, get_or, []};
 ghost use Rattle.relay.specs.Valid.{h};
 ghost use Rattle.sheet.specs.Reading.{verdict_at};
@@ -15,7 +18,7 @@ use sheet::layout::{
 };
 
 // What a run returns: 0 or 1, and the row and head at the end.
-#[derive(Drop)]
+#[derive(Clone, Copy)]
 pub struct Ran {
     pub number: u32,
     pub row: Row,
@@ -24,7 +27,7 @@ pub struct Ran {
 
 // What working a sheet returns: a refusal with its block and the event's position in it, or zeros with the row and head at the end.
 #[repr(C)]
-#[derive(Drop)]
+#[derive(Clone, Copy)]
 pub struct Worked {
     pub number: u32,
     pub block: u32,
@@ -66,7 +69,7 @@ pub fn run(kinds: &[u32], stamp: u32, events: &mut [[u32; 4]]) -> Ran
 }
 
 // What a run of a sheet of either form returns: 0 or 1, and both rows and the head at the end.
-#[derive(Drop)]
+#[derive(Clone, Copy)]
 pub struct RanTracks {
     pub number: u32,
     pub first: Row,
@@ -288,7 +291,7 @@ pub fn work(s: &[u8], out: &mut [u8]) -> Worked
 
 // What working a sheet of either form returns: a refusal with its block and the event's position in it, or zeros with how many tracks it is of, both rows and the head at the end. A sheet of one track has no second row.
 #[repr(C)]
-#[derive(Drop)]
+#[derive(Clone, Copy)]
 pub struct WorkedTracks {
     pub number: u32,
     pub block: u32,
