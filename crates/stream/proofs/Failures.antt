@@ -1,17 +1,17 @@
--- Which calls fail: a read exactly where it gave -1; a write exactly where it gave -1 or took nothing. A reading and a writing that have not failed stay in their room and come further at each step.
+-- Which calls fail: a read exactly where it gave an error; a write exactly where it gave an error or took nothing. A reading and a writing that have not failed stay in their room and come further at each step.
 -- Assumes nothing.
 use Prim.Native.Nat.{ℕ, zero, suc, ◌≤◌, ◌<◌}
-use mathlib.Core.Path.{◌≡◌, refl, sym, ap, subst, ◌∙◌}
+use mathlib.Core.Path.{◌≡◌, refl, sym, subst}
 use native.Mathlib.Omega.{arith}
 use lib.IntN.{ℤ, pos, negsuc}
-use Rattle.libc.specs.Io.{Moved}
 use Rattle.stream.specs.declared.Reading.{Reading}
-use Rattle.stream.specs.declared.Reading.TheVariants.{Whole, Failed}
+use Rattle.stream.specs.declared.Reading.TheVariants.{Failed}
 use Rattle.stream.specs.declared.ReadStep.{ReadStep}
 use Rattle.stream.specs.declared.ReadStep.TheVariants as read_step
 use Rattle.stream.specs.declared.WriteStep.{WriteStep}
-use Rattle.stream.specs.declared.WriteStep.TheVariants as writeStep
-use Rattle.stream.specs.Steps.{after_read, after_write, further, Within}
+use Rattle.stream.specs.declared.WriteStep.TheVariants as write_step
+use Rattle.std.specs.Prelude.{Result, Ok, Err}
+use Rattle.stream.specs.Steps.{moved, after_read, after_write, further, Within}
 
 module _ (at room : ℕ) where
   -- a read that gave -1 is a failed one
@@ -19,22 +19,31 @@ module _ (at room : ℕ) where
   unfolding after_read
   failed_read = refl
 
-  -- and no other is, of what `read` may give
-  pub failed_read_only : (n : ℕ) (got : ℤ) → Moved n got → after_read got at room ≡ read_step.Stop Failed → got ≡ negsuc 0
-  unfolding after_read
-  failed_read_only n (pos zero) m e = cc e
-  failed_read_only n (pos (suc k)) m e = cc e
-  failed_read_only n (negsuc k) m e = ap negsuc m
+  -- and no other is, of what std's `read` may give: an error, or how many bytes
+  pub failed_read_only : {E : Type 0} (got : Result ℕ E) → after_read (moved got) at room ≡ read_step.Stop Failed → (e : E) × (got ≡ Err e)
+  unfolding after_read moved
+  failed_read_only (Ok zero) e = cc e
+  failed_read_only (Ok (suc k)) e = cc e
+  failed_read_only (Err x) e = (x, refl)
 
   -- a write that gave -1, or took nothing, is a failed one
-  pub failed_write : (after_write (negsuc 0) at room ≡ writeStep.Failed) × (after_write (pos 0) at room ≡ writeStep.Failed)
+  pub failed_write : (after_write (negsuc 0) at room ≡ write_step.Failed) × (after_write (pos 0) at room ≡ write_step.Failed)
   unfolding after_write
   failed_write = (refl, refl)
 
   -- a write that took some bytes is not
-  pub taken_write : (k : ℕ) → after_write (pos (suc k)) at room ≡ writeStep.On (further at room (suc k))
+  pub taken_write : (k : ℕ) → after_write (pos (suc k)) at room ≡ write_step.On (further at room (suc k))
   unfolding after_write
   taken_write k = refl
+
+  -- the same of what std's calls give
+  pub error_read : {E : Type 0} (e : E) → after_read (moved (Err e)) at room ≡ read_step.Stop Failed
+  unfolding after_read moved
+  error_read e = refl
+
+  pub error_write : {E : Type 0} (e : E) → after_write (moved (Err e)) at room ≡ write_step.Failed
+  unfolding after_write moved
+  error_write e = refl
 
 -- what a step of a reading that stands at `at` comes to: the reading is within its room, or at a further place of it
 abbrev ReadsOn : ℕ → ℕ → ReadStep → Type 0
@@ -49,21 +58,21 @@ reads_on (negsuc k) at room b = tt
 
 -- the same of a step of a writing
 abbrev WritesOn : ℕ → ℕ → WriteStep → Type 0
-WritesOn at room writeStep.Failed = Unit
-WritesOn at room (writeStep.On p) = (at < p) × (p ≤ room)
+WritesOn at room write_step.Failed = Unit
+WritesOn at room (write_step.On p) = (at < p) × (p ≤ room)
 
-writes-on : (got : ℤ) (at room : ℕ) → at < room → WritesOn at room (after_write got at room)
+writes_on : (got : ℤ) (at room : ℕ) → at < room → WritesOn at room (after_write got at room)
 unfolding after_write
-writes-on (pos zero) at room b = tt
-writes-on (pos (suc k)) at room b = (omega arith, omega arith)
-writes-on (negsuc k) at room b = tt
+writes_on (pos zero) at room b = tt
+writes_on (pos (suc k)) at room b = (omega arith, omega arith)
+writes_on (negsuc k) at room b = tt
 
 module _ (got : ℤ) (at room : ℕ) where
-  pub read-further : {s : ReadStep} {p : ℕ} → s ≡ after_read got at room → s ≡ read_step.On p → at < room → (at < p) × (p ≤ room)
-  read-further e f b = subst (ReadsOn at room) (sym e ∙ f) (reads_on got at room b)
+  pub read_further : {p : ℕ} → read_step.On p ≡ after_read got at room → at < room → (at < p) × (p ≤ room)
+  read_further e b = subst (ReadsOn at room) (sym e) (reads_on got at room b)
 
-  pub read-over : {s : ReadStep} {r : Reading} → s ≡ after_read got at room → s ≡ read_step.Stop r → at < room → Within room r
-  read-over e f b = subst (ReadsOn at room) (sym e ∙ f) (reads_on got at room b)
+  pub read_over : {r : Reading} → read_step.Stop r ≡ after_read got at room → at < room → Within room r
+  read_over e b = subst (ReadsOn at room) (sym e) (reads_on got at room b)
 
-  pub written-further : {s : WriteStep} {p : ℕ} → s ≡ after_write got at room → s ≡ writeStep.On p → at < room → (at < p) × (p ≤ room)
-  written-further e f b = subst (WritesOn at room) (sym e ∙ f) (writes-on got at room b)
+  pub written_further : {p : ℕ} → write_step.On p ≡ after_write got at room → at < room → (at < p) × (p ≤ room)
+  written_further e b = subst (WritesOn at room) (sym e) (writes_on got at room b)
