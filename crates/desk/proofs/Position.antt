@@ -1,41 +1,19 @@
 -- A text says a position exactly where it is the digits that the listing writes of it: the mark of a text is a number's and 1 exactly where it is that number's digits.
 -- Assumes nothing.
-use Prim.Native.Nat.{ℕ, suc, ◌+◌, ◌-◌, ◌^◌, ◌≤◌, ◌<◌}
+use Prim.Native.Nat.{ℕ, ◌+◌, ◌^◌, ◌≤◌, ◌<◌}
 use mathlib.Core.Path.{◌≡◌, refl, ap, ◌∙◌}
 use mathlib.Core.Logic.{◌↔◌}
 use mathlib.Core.List.{List}
 use native.Mathlib.Numerals.{add-one}
 use native.Mathlib.Omega.{arith}
-use borrow.Author.Tests.{le-leb, leb-true, ne_eqb, eqb-false}
-use lib.Dec.{eqb, leb}
 use lib.ListN.{length, get_or, take}
 use lib.Seq.{take-suc, take_all}
-use Rattle.relay.proofs.Truth.{split}
 use Rattle.digits.specs.Digits.{digits}
 use Rattle.digits.specs.Numerals.{with_digit, marked}
 use Rattle.digits.proofs.Numerals.{marked_more, marked-digits, marked-says}
 use Rattle.desk.specs.Words.{position_at, position_of}
-use Rattle.desk.specs.declared.words.Position.TheVariants.{Is, Wrong}
-
--- no text says a position and none
-not_both : (n : ℕ) → Wrong ≡ Is n → ⊥
-not_both n e = let z : ◌≡◌ {A = ℕ} 0 1 = cc e in omega arith
-
--- a mark says the number that it is, less 1, where that has 32 bits
-module _ (m n : ℕ) where
-  at_number : position_at m ≡ Is n → (m ≡ suc n) × (n < 2 ^ 32)
-  unfolding position_at
-  at_number e =
-      split (eqb m 0) (λ z. absurd (not_both n (rw z at e)))
-      (λ z. split (leb m (2 ^ 32))
-      (λ l. let q : m - 1 ≡ n = cc (rw (z, l) at e) in let k = eqb-false m 0 z in let t = leb-true m (2 ^ 32) l in (omega arith, omega arith))
-      (λ l. absurd (not_both n (rw (z, l) at e))))
-
-  number_at : m ≡ suc n → n < 2 ^ 32 → position_at m ≡ Is n
-  unfolding position_at
-  number_at e h =
-      let q : m - 1 ≡ n = omega arith in
-      rw (ne_eqb m 0 (λ z. omega arith), le-leb m (2 ^ 32) (omega arith)) (ap Is q)
+use Rattle.desk.specs.declared.words.Position.TheVariants.{Is}
+use Rattle.desk.proofs.AtNumber.{at_number, number_at}
 
 -- it says n exactly where it is what the listing writes for n, a number of 32 bits
 pub position_iff : (t : List ℕ) (n : ℕ) → (position_of t ≡ Is n) ↔ ((t ≡ digits n) × (n < 2 ^ 32))

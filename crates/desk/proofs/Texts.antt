@@ -2,7 +2,6 @@
 -- Assumes nothing.
 use Prim.Native.Nat.{ℕ, ◌-◌, ◌≤◌, ◌<◌}
 use mathlib.Core.Path.{◌≡◌, refl, sym, ap, ◌∙◌}
-use mathlib.Core.Logic.{◌↔◌}
 use mathlib.Core.List.{List, [], ◌∷◌}
 use native.Mathlib.Omega.{arith}
 use borrow.Author.Tests.{eq-eqb, ne_eqb, eqb-false}
@@ -104,13 +103,9 @@ module _ (s : List ℕ) (k : ℕ) where
             → get_or room' (r.position - 1) 0 ≡ track_at (decode_tracked s) r.position
         track-read room room' h = at_front 0 (decode_tracked s).tracks room room' (tracks-long s ∙ sym (events-long s)) h
 
-only_start : (s : List ℕ) (k : ℕ) (r : Since) → r ≡ since_tracks_of s k → since_text s k ≡ start_line → (r.number ≡ 0) × (r.position ≡ 0)
+pub only_start : (s : List ℕ) (k : ℕ) (r : Since) → r ≡ since_tracks_of s k → since_text s k ≡ start_line → (r.number ≡ 0) × (r.position ≡ 0)
 only_start s k r e t =
     equal_or_not r.number 0
     (λ z. equal_or_not r.position 0 (λ p. (z, p))
     (λ p. absurd (event-other r.position _ _ _ _ (omega arith) (sym (text-event s k r e z p) ∙ t))))
     (λ n. absurd (refused-other r.number r.block r.position (sym (text-refused s k r e n) ∙ t)))
-
--- 'RL up from the start gives position 0': a 0 alone is printed exactly there, and never for a refusal
-pub start_iff : (s : List ℕ) (k : ℕ) → (since_text s k ≡ start_line) ↔ (((since_tracks_of s k).number ≡ 0) × ((since_tracks_of s k).position ≡ 0))
-start_iff s k = (only_start s k (since_tracks_of s k) refl, λ h. text_start s k (since_tracks_of s k) refl h.0 h.1)

@@ -3,14 +3,14 @@ ghost use Rattle.std.specs.Prelude.{◌≡◌};
 ghost use Rattle.desk.specs.Words.{position_of, is_word, one_word, two_words, job_of};
 
 // The position that a text says, where it says one.
-#[derive(Drop)]
+#[derive(Clone, Copy)]
 pub enum Position {
     Is(u32),
     Wrong,
 }
 
 // What the program is to do.
-#[derive(Drop)]
+#[derive(Clone, Copy)]
 pub enum Job {
     List,
     Work,

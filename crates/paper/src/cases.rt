@@ -1,4 +1,5 @@
 // The cases marked P, each on a fresh line of kinds 0, 4, 1. 01, 'Proved and run examples'. Prints `P`, the case, the answer.
+use std::io::Write;
 use stream::say;
 
 const KINDS: [u32; 3] = [0, 4, 1];
@@ -31,20 +32,20 @@ const CASES: [[u32; 4]; 12] = [
     [4, 6, 1, 0],
 ];
 
-fn case(said: bool, i: u32, c: [u32; 4]) -> bool {
+fn case<W: Write>(output: &mut W, said: bool, i: u32, c: [u32; 4]) -> bool {
     let kinds = KINDS;
     let k = crate::row::session(&kinds, c[0] as usize);
     let out = crate::row::next(k, 3, c[1], c[2], c[3]);
-    let said = say::word(said, b"P");
-    let said = say::number(said, i);
-    let said = say::number(said, out.told.answer);
-    say::end(said)
+    let said = say::word(output, said, b"P");
+    let said = say::number(output, said, i);
+    let said = say::number(output, said, out.told.answer);
+    say::end(output, said)
 }
 
-pub fn run(said: bool) -> bool {
+pub fn run<W: Write>(output: &mut W, said: bool) -> bool {
     let mut said = said;
     for i in 0..12usize {
-        said = case(said, i as u32 + 1, CASES[i]);
+        said = case(output, said, i as u32 + 1, CASES[i]);
     }
     said
 }

@@ -4,21 +4,30 @@
 // Prints `D`, the damage, the answer to that event, whether records and head are the same after it, whether the row was valid.
 use lent::array::ROOM;
 use relay::{Head, Post};
+use std::io::Write;
 use stream::say;
 
-fn case(said: bool, damage: &[u8], row: [Post; ROOM], n: usize, head: Head) -> bool {
+fn case<W: Write>(
+    output: &mut W,
+    said: bool,
+    damage: &[u8],
+    row: [Post; ROOM],
+    n: usize,
+    head: Head,
+) -> bool {
     let out = lent::array::event_on(row, n, head, 6, 1, 0);
     let after = out.posts;
     let told = out.told;
-    let said = say::word(said, b"D ");
-    let said = say::word(said, damage);
-    let said = say::number(said, told.answer);
+    let said = say::word(output, said, b"D ");
+    let said = say::word(output, said, damage);
+    let said = say::number(output, said, told.answer);
     let said = say::flag(
+        output,
         said,
         crate::row::same(row, after) & crate::row::same_head(head, told.head),
     );
-    let said = say::flag(said, lent::array::valid_on(row, n, head));
-    say::end(said)
+    let said = say::flag(output, said, lent::array::valid_on(row, n, head));
+    say::end(output, said)
 }
 
 fn put(row: [Post; ROOM], i: usize, p: Post) -> [Post; ROOM] {
@@ -30,18 +39,18 @@ fn put(row: [Post; ROOM], i: usize, p: Post) -> [Post; ROOM] {
 }
 
 // 02, item 2: the jam is bit 8, 'down .. at the origin'.
-fn buttons(said: bool, row: [Post; ROOM], head: Head) -> bool {
+fn buttons<W: Write>(output: &mut W, said: bool, row: [Post; ROOM], head: Head) -> bool {
     // 22 1 1: at post 1 it is no damage, and the release is refused
     let mut d = row[1];
     d.word = d.word | relay::JAM;
-    let said = case(said, b"jam", put(row, 1, d), 32, head);
+    let said = case(output, said, b"jam", put(row, 1, d), 32, head);
     // 1 1 0: at the origin it is
     let mut p = row[0];
     p.word = p.word | relay::JAM;
-    case(said, b"origin", put(row, 0, p), 32, head)
+    case(output, said, b"origin", put(row, 0, p), 32, head)
 }
 
-pub fn run(said: bool) -> bool {
+pub fn run<W: Write>(output: &mut W, said: bool) -> bool {
     let mut kinds = [relay::INTERMEDIATE; 32];
     kinds[0] = relay::ORIGIN;
     kinds[31] = relay::TERMINUS;
@@ -52,27 +61,27 @@ pub fn run(said: bool) -> bool {
     let p = row[0];
     let d = row[1];
     // 0 0 1: as it is, the row is valid and takes the event
-    let said = case(said, b"none", row, 32, head);
+    let said = case(output, said, b"none", row, 32, head);
     // 1 1 0, as all that follow: 'All other bits are zero'
     let mut bit = d;
     bit.word = d.word | (relay::ALL + 1);
-    let said = case(said, b"bit", put(row, 1, bit), 32, head);
+    let said = case(output, said, b"bit", put(row, 1, bit), 32, head);
     // 'all others have 2, 3 or 4'
     let mut kind = d;
     kind.kind = 5;
-    let said = case(said, b"kind", put(row, 1, kind), 32, head);
+    let said = case(output, said, b"kind", put(row, 1, kind), 32, head);
     // 'h equals a - v - g': 1 is not 2
     let mut count = p;
     count.a = 2;
-    let said = case(said, b"count", put(row, 0, count), 32, head);
+    let said = case(output, said, b"count", put(row, 0, count), 32, head);
     // the same: 0 is not 1
     let mut free = p;
     free.word = p.word | relay::RL;
-    let said = case(said, b"RL", put(row, 0, free), 32, head);
+    let said = case(output, said, b"RL", put(row, 0, free), 32, head);
     // '2 to 32 records': one intermediate post more, each record right
     let long = put(put(row, 31, row[30]), 32, row[31]);
-    let said = case(said, b"long", long, 33, head);
-    let said = case(said, b"one", row, 1, head);
-    let said = case(said, b"empty", row, 0, head);
-    buttons(said, row, head)
+    let said = case(output, said, b"long", long, 33, head);
+    let said = case(output, said, b"one", row, 1, head);
+    let said = case(output, said, b"empty", row, 0, head);
+    buttons(output, said, row, head)
 }

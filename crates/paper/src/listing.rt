@@ -1,6 +1,7 @@
 // The listing: kinds 0, 1, start stamp 0, event k stamped 1000k. 01, 'The program and one listing'.
 // Prints one line per event, position, event, post, answer; then the section, S, section, a, r, x, q, e, y, v, g, h.
 use relay::Post;
+use std::io::Write;
 use stream::say;
 
 const KINDS: [u32; 2] = [0, 1];
@@ -40,30 +41,30 @@ const EVENTS: [[u32; 2]; 15] = [
 ];
 
 // The section between the posts `p` and `d`; h is 1 if RL is down.
-fn section(said: bool, s: u32, p: Post, d: Post) -> bool {
-    let said = say::word(said, b"S");
-    let said = say::number(said, s);
-    let said = say::number(said, p.a);
-    let said = say::number(said, d.r);
-    let said = say::number(said, p.x);
-    let said = say::number(said, d.q);
-    let said = say::number(said, d.e);
-    let said = say::number(said, p.y);
-    let said = say::number(said, p.v);
-    let said = say::number(said, p.g);
-    let said = say::flag(said, p.word & relay::RL == 0);
-    say::end(said)
+fn section<W: Write>(output: &mut W, said: bool, s: u32, p: Post, d: Post) -> bool {
+    let said = say::word(output, said, b"S");
+    let said = say::number(output, said, s);
+    let said = say::number(output, said, p.a);
+    let said = say::number(output, said, d.r);
+    let said = say::number(output, said, p.x);
+    let said = say::number(output, said, d.q);
+    let said = say::number(output, said, d.e);
+    let said = say::number(output, said, p.y);
+    let said = say::number(output, said, p.v);
+    let said = say::number(output, said, p.g);
+    let said = say::flag(output, said, p.word & relay::RL == 0);
+    say::end(output, said)
 }
 
-fn event(said: bool, position: u32, e: [u32; 2], answer: u32) -> bool {
-    let said = say::first(said, position);
-    let said = say::number(said, e[0]);
-    let said = say::number(said, e[1]);
-    let said = say::number(said, answer);
-    say::end(said)
+fn event<W: Write>(output: &mut W, said: bool, position: u32, e: [u32; 2], answer: u32) -> bool {
+    let said = say::first(output, said, position);
+    let said = say::number(output, said, e[0]);
+    let said = say::number(output, said, e[1]);
+    let said = say::number(output, said, answer);
+    say::end(output, said)
 }
 
-pub fn run(said: bool) -> bool {
+pub fn run<W: Write>(output: &mut W, said: bool) -> bool {
     let kinds = KINDS;
     let mut said = said;
     let mut k = crate::row::session(&kinds, 0);
@@ -71,8 +72,8 @@ pub fn run(said: bool) -> bool {
         let position = i as u32 + 1;
         let e = EVENTS[i];
         k = crate::row::next(k, 2, e[0], e[1], 1000 * position);
-        said = event(said, position, e, k.told.answer);
+        said = event(output, said, position, e, k.told.answer);
     }
     let posts = k.posts;
-    section(said, 0, posts[0], posts[1])
+    section(output, said, 0, posts[0], posts[1])
 }

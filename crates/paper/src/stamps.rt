@@ -4,6 +4,7 @@
 // Prints `E`, the case, the answer, the head (events taken, last stamp), whether the records are the same.
 use lent::array::ROOM;
 use relay::{Head, Post};
+use std::io::Write;
 use stream::say;
 
 const KINDS: [u32; 3] = [0, 4, 1];
@@ -38,7 +39,7 @@ const CASES: [[u32; 5]; 13] = [
     [0, 0, 3, 1, 9],
 ];
 
-fn case(said: bool, row: [Post; ROOM], i: u32, c: [u32; 5]) -> bool {
+fn case<W: Write>(output: &mut W, said: bool, row: [Post; ROOM], i: u32, c: [u32; 5]) -> bool {
     let head = Head {
         taken: c[0],
         last: c[1],
@@ -47,22 +48,22 @@ fn case(said: bool, row: [Post; ROOM], i: u32, c: [u32; 5]) -> bool {
     let after = out.posts;
     let told = out.told;
     let then = told.head;
-    let said = say::word(said, b"E");
-    let said = say::number(said, i);
-    let said = say::number(said, told.answer);
-    let said = say::number(said, then.taken);
-    let said = say::number(said, then.last);
-    let said = say::flag(said, crate::row::same(row, after));
-    say::end(said)
+    let said = say::word(output, said, b"E");
+    let said = say::number(output, said, i);
+    let said = say::number(output, said, told.answer);
+    let said = say::number(output, said, then.taken);
+    let said = say::number(output, said, then.last);
+    let said = say::flag(output, said, crate::row::same(row, after));
+    say::end(output, said)
 }
 
-pub fn run(said: bool) -> bool {
+pub fn run<W: Write>(output: &mut W, said: bool) -> bool {
     let kinds = KINDS;
     let fresh = crate::row::session(&kinds, 0);
     let row = fresh.posts;
     let mut said = said;
     for i in 0..13usize {
-        said = case(said, row, i as u32 + 1, CASES[i]);
+        said = case(output, said, row, i as u32 + 1, CASES[i]);
     }
     said
 }

@@ -1,7 +1,9 @@
 // Writes the paper's sheet to standard output: table 0, 1, start stamp 0, fifteen events, event k stamped 1000k, none answered.
 // 01, 'The program and one listing'.
 
-fn main() {
+#![tactic(auto)]
+
+fn main(rt: HostRuntime) {
     let kinds = [0u32, 1];
     let events = [
         [1u32, 0, 31, 1000],
@@ -22,5 +24,5 @@ fn main() {
     ];
     let mut out = [0u8; 1024];
     lent_sheet::write(&kinds, 0, &events, &mut out);
-    stream::print(&out);
+    stream::print(&mut rt.stdout(), &mut rt.stderr(), &out);
 }

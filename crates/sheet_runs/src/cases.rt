@@ -1,6 +1,7 @@
 // The cases, by subject.
 ghost use Rattle.std.specs.Prelude.{◌≤◌};
 
+use std::io::Write;
 use stream::say;
 
 // The event of the paper's second check word: event 1 at post 0, not yet answered, stamp 1000.
@@ -25,124 +26,148 @@ fn word_at(s: &[u8], at: usize) -> u64 {
 }
 
 // What testing says: number, block and position.
-fn tested(said: bool, s: &[u8]) -> bool {
+fn tested<W: Write>(output: &mut W, said: bool, s: &[u8]) -> bool {
     let v = lent_sheet::test(s);
-    let said = say::number(said, v.number);
-    let said = say::number(said, v.block);
-    let said = say::number(said, v.position);
-    say::end(said)
+    let said = say::number(output, said, v.number);
+    let said = say::number(output, said, v.block);
+    let said = say::number(output, said, v.position);
+    say::end(output, said)
 }
 
 // The same of a part.
-fn part_tested(said: bool, s: &[u8], from: usize, to: usize) -> bool {
+fn part_tested<W: Write>(output: &mut W, said: bool, s: &[u8], from: usize, to: usize) -> bool {
     if s.len() < to {
         return said;
     }
     if to < from {
         return said;
     }
-    tested(said, &s[from..to])
+    tested(output, said, &s[from..to])
 }
 
 // 'kinds 0, 1 with start stamp 0 give a block 0 check word of 317940; a following block of event 1 at post 0, answer 31, stamp 1000 has check word 253455';
 // 'a header alone is a good sheet'
-pub fn paper(said: bool) -> bool {
+pub fn paper<W: Write>(output: &mut W, said: bool) -> bool {
     let kinds = [0u32, 1];
     let events = [FIRST; 1];
     let mut out = [9u8; 1030];
-    let said = say::word(said, b"written");
-    let said = say::number(said, lent_sheet::write(&kinds, 0, &events, &mut out));
-    let said = say::long(said, word_at(&out, 508));
-    let said = say::long(said, word_at(&out, 1020));
+    let said = say::word(output, said, b"written");
+    let said = say::number(
+        output,
+        said,
+        lent_sheet::write(&kinds, 0, &events, &mut out),
+    );
+    let said = say::long(output, said, word_at(&out, 508));
+    let said = say::long(output, said, word_at(&out, 1020));
     // the bytes past the sheet stay
-    let said = say::long(said, wide(out[1024]));
-    let said = say::end(said);
-    let said = say::word(said, b"header alone");
-    let said = part_tested(said, &out, 0, 512);
-    let said = say::word(said, b"both blocks");
-    let said = part_tested(said, &out, 0, 1024);
+    let said = say::long(output, said, wide(out[1024]));
+    let said = say::end(output, said);
+    let said = say::word(output, said, b"header alone");
+    let said = part_tested(output, said, &out, 0, 512);
+    let said = say::word(output, said, b"both blocks");
+    let said = part_tested(output, said, &out, 0, 1024);
     // the second block alone is read as block 0: its check is one off
-    let said = say::word(said, b"no header");
-    part_tested(said, &out, 512, 1024)
+    let said = say::word(output, said, b"no header");
+    part_tested(output, said, &out, 512, 1024)
 }
 
 // 'Lengths 0, 511 and 33,280 give 18'
-pub fn lengths(said: bool) -> bool {
+pub fn lengths<W: Write>(output: &mut W, said: bool) -> bool {
     let bytes = [0u8; 33280];
-    let said = say::word(said, b"length 0");
-    let said = tested(said, &bytes[..0]);
-    let said = say::word(said, b"length 511");
-    let said = tested(said, &bytes[..511]);
-    let said = say::word(said, b"length 513");
-    let said = tested(said, &bytes[..513]);
-    let said = say::word(said, b"length 33280");
-    let said = tested(said, &bytes[..33280]);
+    let said = say::word(output, said, b"length 0");
+    let said = tested(output, said, &bytes[..0]);
+    let said = say::word(output, said, b"length 511");
+    let said = tested(output, said, &bytes[..511]);
+    let said = say::word(output, said, b"length 513");
+    let said = tested(output, said, &bytes[..513]);
+    let said = say::word(output, said, b"length 33280");
+    let said = tested(output, said, &bytes[..33280]);
     // of zeros, block 0 fails its check
-    let said = say::word(said, b"length 512");
-    tested(said, &bytes[..512])
+    let said = say::word(output, said, b"length 512");
+    tested(output, said, &bytes[..512])
 }
 
 // Room that is too short gives 21, last, and stays; room past what is read stays.
-pub fn rooms(said: bool) -> bool {
+pub fn rooms<W: Write>(output: &mut W, said: bool) -> bool {
     let kinds = [0u32, 1];
     let events = [FIRST; 1];
     let mut out = [0u8; 1024];
-    let said = say::word(said, b"short output");
+    let said = say::word(output, said, b"short output");
     let mut less = [7u8; 1023];
-    let said = say::number(said, lent_sheet::write(&kinds, 0, &events, &mut less));
-    let said = say::long(said, wide(less[0]));
-    let said = say::end(said);
+    let said = say::number(
+        output,
+        said,
+        lent_sheet::write(&kinds, 0, &events, &mut less),
+    );
+    let said = say::long(output, said, wide(less[0]));
+    let said = say::end(output, said);
     lent_sheet::write(&kinds, 77, &events, &mut out);
     let mut ks = [5u32; 3];
     let mut es = [[6u32; 4]; 2];
     let found = lent_sheet::read(&out, &mut ks, &mut es);
     let e = es[0];
     let rest = es[1];
-    let said = say::word(said, b"read");
-    let said = say::number(said, found.number);
-    let said = say::number(said, found.posts);
-    let said = say::number(said, found.stamp);
-    let said = say::number(said, found.events);
-    let said = say::number(said, ks[1]);
-    let said = say::number(said, ks[2]);
-    let said = say::number(said, e[0]);
-    let said = say::number(said, e[1]);
-    let said = say::number(said, e[2]);
-    let said = say::number(said, e[3]);
-    let said = say::number(said, rest[0]);
-    let said = say::end(said);
+    let said = say::word(output, said, b"read");
+    let said = say::number(output, said, found.number);
+    let said = say::number(output, said, found.posts);
+    let said = say::number(output, said, found.stamp);
+    let said = say::number(output, said, found.events);
+    let said = say::number(output, said, ks[1]);
+    let said = say::number(output, said, ks[2]);
+    let said = say::number(output, said, e[0]);
+    let said = say::number(output, said, e[1]);
+    let said = say::number(output, said, e[2]);
+    let said = say::number(output, said, e[3]);
+    let said = say::number(output, said, rest[0]);
+    let said = say::end(output, said);
     let mut one = [5u32; 1];
     let short = lent_sheet::read(&out, &mut one, &mut es);
-    let said = say::word(said, b"short room");
-    let said = say::number(said, short.number);
-    let said = say::number(said, short.block);
-    let said = say::number(said, short.posts);
-    let said = say::number(said, one[0]);
-    say::end(said)
+    let said = say::word(output, said, b"short room");
+    let said = say::number(output, said, short.number);
+    let said = say::number(output, said, short.block);
+    let said = say::number(output, said, short.posts);
+    let said = say::number(output, said, one[0]);
+    say::end(output, said)
 }
 
 // A full sheet of 3,780 events is 64 blocks; 3,781 are refused 18; an event out of its field 20; a wrong table 1, before all.
-pub fn full(said: bool) -> bool {
+pub fn full<W: Write>(output: &mut W, said: bool) -> bool {
     let kinds = [0u32, 3, 1];
     let events = [FIRST; 3780];
     let mut out = [0u8; 32768];
-    let said = say::word(said, b"full");
-    let said = say::number(said, lent_sheet::write(&kinds, 5, &events, &mut out));
-    let said = tested(said, &out[..32768]);
+    let said = say::word(output, said, b"full");
+    let said = say::number(
+        output,
+        said,
+        lent_sheet::write(&kinds, 5, &events, &mut out),
+    );
+    let said = tested(output, said, &out[..32768]);
     let more = [FIRST; 3781];
-    let said = say::word(said, b"one too many");
-    let said = say::number(said, lent_sheet::write(&kinds, 5, &more, &mut out));
-    let said = say::end(said);
+    let said = say::word(output, said, b"one too many");
+    let said = say::number(output, said, lent_sheet::write(&kinds, 5, &more, &mut out));
+    let said = say::end(output, said);
     let number = [[32u32, 0, 31, 0]; 1];
     let post = [[1u32, 64, 31, 0]; 1];
     let answer = [[1u32, 0, 32, 0]; 1];
     let wrong = [0u32, 5, 1];
-    let said = say::word(said, b"out of field");
-    let said = say::number(said, lent_sheet::write(&kinds, 5, &number, &mut out));
-    let said = say::number(said, lent_sheet::write(&kinds, 5, &post, &mut out));
-    let said = say::number(said, lent_sheet::write(&kinds, 5, &answer, &mut out));
-    let said = say::number(said, lent_sheet::write(&wrong, 5, &answer, &mut out));
-    say::end(said)
+    let said = say::word(output, said, b"out of field");
+    let said = say::number(
+        output,
+        said,
+        lent_sheet::write(&kinds, 5, &number, &mut out),
+    );
+    let said = say::number(output, said, lent_sheet::write(&kinds, 5, &post, &mut out));
+    let said = say::number(
+        output,
+        said,
+        lent_sheet::write(&kinds, 5, &answer, &mut out),
+    );
+    let said = say::number(
+        output,
+        said,
+        lent_sheet::write(&wrong, 5, &answer, &mut out),
+    );
+    say::end(output, said)
 }
 
 // 1 where a verdict is 19 with block `b`, else 0.
@@ -159,7 +184,7 @@ fn named(number: u32, block: u32, b: usize) -> u64
 }
 
 // One flipped bit in each block of a full sheet: 19 with that block, and no block before it.
-pub fn damaged(said: bool) -> bool {
+pub fn damaged<W: Write>(output: &mut W, said: bool) -> bool {
     let kinds = [0u32, 2, 4, 1];
     let events = [FIRST; 3780];
     let mut out = [0u8; 32768];
@@ -174,15 +199,15 @@ pub fn damaged(said: bool) -> bool {
         out[at] = out[at] ^ 1;
         b += 1;
     }
-    let said = say::word(said, b"a bad block in each place");
-    let said = say::long(said, right);
-    let said = say::end(said);
-    let said = say::word(said, b"mended");
-    tested(said, &out[..32768])
+    let said = say::word(output, said, b"a bad block in each place");
+    let said = say::long(output, said, right);
+    let said = say::end(output, said);
+    let said = say::word(output, said, b"mended");
+    tested(output, said, &out[..32768])
 }
 
 // Bit 16 of two event words of block 2 up, and bit 16 of their stamps down, so that the block adds up as before: 24 with the block and the first of the two, then with the other.
-pub fn upper(said: bool) -> bool {
+pub fn upper<W: Write>(output: &mut W, said: bool) -> bool {
     let kinds = [0u32, 1];
     let events = [[1u32, 0, 31, 66536]; 120];
     let mut out = [0u8; 1536];
@@ -192,10 +217,10 @@ pub fn upper(said: bool) -> bool {
     out[1090] = 0;
     out[1102] = 1;
     out[1106] = 0;
-    let said = say::word(said, b"upper bits");
-    let said = tested(said, &out[..1536]);
+    let said = say::word(output, said, b"upper bits");
+    let said = tested(output, said, &out[..1536]);
     out[1086] = 0;
     out[1090] = 1;
-    let said = say::word(said, b"of one event");
-    tested(said, &out[..1536])
+    let said = say::word(output, said, b"of one event");
+    tested(output, said, &out[..1536])
 }
