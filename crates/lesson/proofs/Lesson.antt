@@ -43,7 +43,8 @@ use Rattle.working.proofs.Works.{said-table}
 use Rattle.listing.specs.Lines.{track_named, section_line}
 use Rattle.listing.specs.Listing.{listing_of}
 use Rattle.digits.specs.Texts.{joined}
-use Rattle.listing.proofs.Numbered.{event_text, section_text, joined_same, lines-joined}
+use Rattle.listing.proofs.Numbered.{event_text, section_text, joined_same}
+use Rattle.listing.proofs.Joined.{lines-joined}
 use Rattle.listing.proofs.Sheets.{listing-worked}
 use Rattle.lesson.specs.Lesson.{asked, onto, shown, section_says, taken_in, last_stamp, line_after, answer_at, event_said, section_said, said}
 
@@ -56,7 +57,7 @@ works_on : {z : State} (b : List Entry) (a : After) (es : List (List ℕ)) → R
     → Reached z (as_state (onto b (answered a es)) (run a es))
 unfolding step onto run answered
 works_on b a [] r = r
-works_on b a (e ∷ es) r = works_on _ (next a e) es (further r (given_event (asked e)))
+works_on b a (e ∷ es) r = works_on (entry (asked e) (next a e).told.answer ∷ b) (next a e) es (further r (given_event (asked e)))
 
 pub blanks-long : (ks : List ℕ) → length (blanks ks) ≡ length ks
 blanks-long [] = refl
@@ -162,7 +163,7 @@ head_next t b a e =
 head-on : (t : ℕ) (b : List Entry) (a : After) (es : List (List ℕ)) → Counts t b a → Counts t (onto b (answered a es)) (run a es)
 unfolding onto run answered
 head-on t b a [] z = z
-head-on t b a (e ∷ es) z = head-on t _ (next a e) es (head_next t b a e z)
+head-on t b a (e ∷ es) z = head-on t (entry (asked e) (next a e).told.answer ∷ b) (next a e) es (head_next t b a e z)
 
 -- events taken is how many answers are 0, and the last stamp that of the last event taken, or the start stamp
 pub head-says : (ks : List ℕ) (t : ℕ) (es : List (List ℕ))

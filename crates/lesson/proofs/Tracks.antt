@@ -1,6 +1,6 @@
 -- Demand 3 for each track of a worked sheet of two: what working leaves of a track's line is what the sheet's own events and answers on that track say.
 -- The states of working are those of a session on two tracks, event by event; so each theorem of crates/tracks is one of the sheet.
-use Prim.Native.Nat.{ℕ, suc, ◌+◌, ◌-◌, ◌*◌, ◌/◌, ◌%◌, ◌<◌}
+use Prim.Native.Nat.{ℕ, ◌+◌, ◌-◌, ◌%◌, ◌<◌}
 use mathlib.Core.Path.{◌≡◌, refl, sym, ap, subst, ◌∙◌}
 use mathlib.Core.Bool.{Bool, true, false, ◌&&◌, ◌||◌}
 use mathlib.Core.List.{List, [], ◌∷◌, ◌++◌}
@@ -11,7 +11,7 @@ use lib.ListN.{length, get_or, drop}
 use Rattle.relay.specs.Choice.{pick, one}
 use Rattle.relay.specs.Examples.{blanks}
 use Rattle.relay.specs.Kinds.{ordinary, table_ok, blocks_at_pedal}
-use Rattle.relay.specs.Line.{head, startable, fresh_line}
+use Rattle.relay.specs.Line.{head, startable}
 use Rattle.relay.specs.Posts.{at}
 use Rattle.relay.specs.Relays.{An, up}
 use Rattle.relay.specs.declared.Post.{Post}
@@ -20,12 +20,11 @@ use Rattle.relay.proofs.Frame.{head-moves, refused-alters-nothing}
 use Rattle.relay.proofs.Truth.{and_facts, split}
 use Rattle.history.specs.History.{Entry, entry, did, is_open, releases, announced, tally}
 use Rattle.history.specs.Demand.{Counted, Ends, Conserved, HeldByOne, Locked, Freed, Unjammed, Follows}
-use Rattle.sheet.specs.Entry.{number_of, post_of, answer_of, stamp_of}
+use Rattle.sheet.specs.Entry.{number_of, post_of, stamp_of}
 use Rattle.sheet.specs.Layout.{two_tracks}
 use Rattle.sheet.specs.Reading.{form_ok, tables_ok, table_fits, verdict_up_to, decode_tracked}
-use Rattle.sheet.specs.declared.Verdict.{Verdict}
 use Rattle.sheet.specs.Sheet.{Tracked, first_kinds, second_kinds, circuit_of}
-use Rattle.tracks.specs.Circuit.{AfterTwo, circuit_ok, startable_two, start_two}
+use Rattle.tracks.specs.Circuit.{AfterTwo, startable_two, start_two}
 use Rattle.tracks.specs.Desk.{Desk, desk, of_track, line_of, Asked, Session, given, step, run, begun, names, only}
 use Rattle.tracks.proofs.Demand as demand
 use Rattle.tracks.proofs.Kept.{two_moves, two_refused}
@@ -37,7 +36,8 @@ use Rattle.working.proofs.Steps.{goes_by}
 use Rattle.working.proofs.WorksTracks.{worked-long, said_start}
 use Rattle.listing.specs.Lines.{track_named, section_line}
 use Rattle.listing.specs.Listing.{answer_to, listing_of}
-use Rattle.listing.proofs.Numbered.{event_text, section_text, joined_same, lines-joined, listing-lines}
+use Rattle.listing.proofs.Numbered.{event_text, section_text, joined_same, listing-lines}
+use Rattle.listing.proofs.Joined.{lines-joined}
 use Rattle.digits.specs.Texts.{joined}
 use Rattle.lesson.specs.Lesson.{asked, onto, shown, section_says, taken_in, last_stamp}
 use Rattle.lesson.specs.Tracks.{onto_track, shown_on, event_on, answer_on, event_said_on, kinds_on, section_said_on, said_on}
@@ -94,7 +94,7 @@ head-along : (form c t : ℕ) (b : List Entry) (a : AfterTwo) (es : List (List �
 unfolding onto run_by answers_by
 head-along form c t b a [] z = z
 head-along form c t b a (e ∷ es) z =
-    head-along form c t _ (next_by form c a e) es
+    head-along form c t (entry (asked e) (next_by form c a e).told.answer ∷ b) (next_by form c a e) es
     (head-moved t b a.told.head (next_by form c a e).told.head (entry (asked e) (next_by form c a e).told.answer) (next_moves form c a e) (next_stays form c a e) z)
 
 -- of a sheet of either form

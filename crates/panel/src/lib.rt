@@ -1,5 +1,8 @@
 // The calls on a sheet for a panel written in C or Rust, beside those of `lent` on the row: `include/desk.h` declares them.
 // Each is the call below it, under that call's own contract.
+
+#![tactic(auto)]
+
 ghost use Rattle.std.specs.Prelude.{◌≡◌};
 ghost use Rattle.exporting.specs.Exporting.{Exports};
 ghost use Rattle.importing.specs.Importing.{Imports};
