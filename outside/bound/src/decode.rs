@@ -358,6 +358,15 @@ fn two_bytes(reader: &mut Reader, second: u8) -> Result<Effect, String> {
             0xFA => return Ok(Effect::Nop),
             byte => return unknown(&format!("f3 0f 1e {byte:02x}")),
         },
+        (_, 0x38 | 0x3A) => {
+            let third = reader.byte()?;
+            return match wider_vector(reader, prefix, second, third)? {
+                true => Ok(Effect::Plain),
+                false => unknown(&format!(
+                    "0f {second:02x} {third:02x} with prefix {prefix:02x}"
+                )),
+            };
+        }
         _ => {}
     }
     if !general(reader, prefix, second)? && !vector(reader, prefix, second)? {
@@ -434,6 +443,27 @@ fn vector(reader: &mut Reader, prefix: u8, second: u8) -> Result<bool, String> {
     let found = reader.operands(register, place)?;
     reader.immediate(immediate)?;
     Ok(right(prefix, second, found))
+}
+
+/// The opcodes behind 0F 38 and 0F 3A for xmm registers: what compilers use of SSSE3 and SSE4.1 on whole numbers.
+fn wider_vector(reader: &mut Reader, prefix: u8, second: u8, third: u8) -> Result<bool, String> {
+    let (place, immediate) = match (prefix, second, third) {
+        // bytes shuffled; numbers compared, widened, multiplied, packed; the least and the greatest
+        (
+            0x66,
+            0x38,
+            0x00 | 0x17 | 0x1C..=0x1E | 0x20..=0x25 | 0x29 | 0x2B | 0x30..=0x35 | 0x38..=0x40,
+        ) => (Use::Not, 0),
+        // blends, and two registers shifted as one
+        (0x66, 0x3A, 0x0E | 0x0F) => (Use::Not, 1),
+        // one number taken out of a register, and one put into it
+        (0x66, 0x3A, 0x14..=0x16) => (Use::Writes, 1),
+        (0x66, 0x3A, 0x20 | 0x22) => (Use::Reads, 1),
+        _ => return Ok(false),
+    };
+    reader.operands(Use::Not, place)?;
+    reader.immediate(immediate)?;
+    Ok(true)
 }
 
 /// Whether an opcode for xmm registers has the operands and the extension that it must have, where not all are right.

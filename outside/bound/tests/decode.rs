@@ -51,8 +51,39 @@ fn lengths() {
         "66 0f db 05 00 00 00 00",       // pand 0(%rip),%xmm0
         "f3 0f 6f 04 0f",                // movdqu
         "66 41 0f 6e c1",                // movd %r9d,%xmm0
+        "66 0f 38 00 05 00 00 00 00",    // pshufb 0(%rip),%xmm0
+        "66 0f 3a 0f c1 08",             // palignr $8,%xmm1,%xmm0
+        "66 0f 3a 22 40 04 01",          // pinsrd $1,4(%rax),%xmm0
+        "66 49 0f 3a 16 c3 01",          // pextrq $1,%xmm0,%r11
     ] {
         without_rsp(text);
+    }
+}
+
+/// Two registers each: behind 0F 38 with nothing behind them, behind 0F 3A with an immediate.
+#[test]
+fn of_ssse3_and_sse41() {
+    for third in [
+        0x00, // pshufb
+        0x17, // ptest
+        0x1C, 0x1D, 0x1E, // pabsb, pabsw, pabsd
+        0x20, 0x21, 0x22, 0x23, 0x24, 0x25, // pmovsxbw to pmovsxdq
+        0x29, // pcmpeqq
+        0x2B, // packusdw
+        0x30, 0x31, 0x32, 0x33, 0x34, 0x35, // pmovzxbw to pmovzxdq
+        0x38, 0x39, 0x3A, 0x3B, // pminsb, pminsd, pminuw, pminud
+        0x3C, 0x3D, 0x3E, 0x3F, // pmaxsb, pmaxsd, pmaxuw, pmaxud
+        0x40, // pmulld
+    ] {
+        without_rsp(&format!("66 0f 38 {third:02x} c1"));
+    }
+    for third in [
+        0x0E, // pblendw
+        0x0F, // palignr
+        0x14, 0x15, 0x16, // pextrb, pextrw, pextrd to %eax
+        0x20, 0x22, // pinsrb, pinsrd from %eax
+    ] {
+        without_rsp(&format!("66 0f 3a {third:02x} c0 01"));
     }
 }
 
@@ -105,7 +136,7 @@ fn moves_of_rsp() {
     assert_eq!(effect("48 8d 64 24 f8"), Effect::Move(-8));
 }
 
-const SETS: [&str; 35] = [
+const SETS: [&str; 39] = [
     "5c",                   // pop %rsp
     "48 89 c4",             // mov %rax,%rsp
     "48 8b 64 24 08",       // mov 8(%rsp),%rsp
@@ -141,6 +172,10 @@ const SETS: [&str; 35] = [
     "0f 50 e1",             // movmskps %xmm1,%esp
     "66 0f c5 e1 00",       // pextrw $0,%xmm1,%esp
     "66 0f d7 e1",          // pmovmskb %xmm1,%esp
+    "66 0f 3a 14 cc 00",    // pextrb $0,%xmm1,%esp
+    "66 0f 3a 15 cc 00",    // pextrw $0,%xmm1,%esp
+    "66 0f 3a 16 cc 00",    // pextrd $0,%xmm1,%esp
+    "66 48 0f 3a 16 cc 00", // pextrq $0,%xmm1,%rsp
 ];
 
 #[test]
@@ -165,6 +200,8 @@ fn rsp_read() {
         "4a 8d 04 24",             // lea (%rsp,%r12,1),%rax
         "42 8b 84 3c 58 06 00 00", // mov 0x658(%rsp,%r15,1),%eax
         "66 48 0f 6e e4",          // movq %rsp,%xmm4
+        "66 0f 3a 20 e4 00",       // pinsrb $0,%esp,%xmm4
+        "66 48 0f 3a 22 e4 00",    // pinsrq $0,%rsp,%xmm4
     ] {
         assert!(one(text).escapes, "{text}");
     }
@@ -179,6 +216,9 @@ fn memory_from_rsp() {
     assert_eq!(one("48 8d 9c 24 00 ff ff ff").stack, Some(-256));
     assert_eq!(one("48 83 7c 24 90 08").stack, Some(-112));
     assert_eq!(one("0f 94 44 24 87").stack, Some(-121));
+    assert_eq!(one("66 0f 38 39 44 24 f0").stack, Some(-16));
+    assert_eq!(one("66 0f 3a 16 44 24 8c 01").stack, Some(-116));
+    assert_eq!(one("66 0f 3a 22 44 24 04 02").stack, Some(4));
     assert!(!one("88 44 24 df").escapes);
 }
 
@@ -191,6 +231,10 @@ fn four_that_is_not_rsp() {
         "66 0f 6e e0",       // movd %eax,%xmm4
         "66 0f 7e e0",       // movd %xmm4,%eax
         "66 0f 72 e4 1f",    // psrad $31,%xmm4
+        "66 0f 38 39 e4",    // pminsd %xmm4,%xmm4
+        "66 0f 3a 0f e4 08", // palignr $8,%xmm4,%xmm4
+        "66 0f 3a 16 e0 00", // pextrd $0,%xmm4,%eax
+        "66 0f 3a 22 e0 00", // pinsrd $0,%eax,%xmm4
         "49 89 c4",          // mov %rax,%r12
         "4c 89 e0",          // mov %r12,%rax
         "49 83 c4 08",       // add $8,%r12
@@ -244,8 +288,14 @@ fn refused() {
         "f0 ff 00",                   // lock
         "ff 28",                      // a far jump
         "48 66 90",                   // a prefix behind REX
-        "0f 38 00 c0",                // pshufb
-        "0f 3a 0f c0 01",             // palignr
+        "0f 38 00 c0",                // pshufb of MMX
+        "0f 3a 0f c0 01",             // palignr of MMX
+        "66 0f 38 37 c0",             // pcmpgtq, which the compiler has not used yet
+        "66 0f 38 2a 04 24",          // movntdqa
+        "66 0f 3a 17 c0 01",          // extractps
+        "66 0f 3a 63 c0 00",          // pcmpistri
+        "f2 0f 38 f1 c0",             // crc32
+        "66 0f 38",                   // cut off
         "c5 f8 28 c0",                // vmovaps
         "d9 00",                      // flds
         "0f ab 04 24",                // bts %eax,(%rsp)
