@@ -1,7 +1,7 @@
 -- Which calls fail: a read exactly where it gave an error; a write exactly where it gave an error or took nothing. A reading and a writing that have not failed stay in their room and come further at each step.
 -- Assumes nothing.
 use Prim.Native.Nat.{ℕ, zero, suc, ◌≤◌, ◌<◌}
-use mathlib.Core.Path.{◌≡◌, refl, sym, subst}
+use mathlib.Core.Path.{◌≡◌, refl, sym, ap, subst}
 use native.Mathlib.Omega.{arith}
 use lib.IntN.{ℤ, pos, negsuc}
 use Rattle.stream.specs.declared.Reading.{Reading}
@@ -10,8 +10,8 @@ use Rattle.stream.specs.declared.ReadStep.{ReadStep}
 use Rattle.stream.specs.declared.ReadStep.TheVariants as read_step
 use Rattle.stream.specs.declared.WriteStep.{WriteStep}
 use Rattle.stream.specs.declared.WriteStep.TheVariants as write_step
-use Rattle.std.specs.Prelude.{Result, Ok, Err}
-use Rattle.stream.specs.Steps.{moved, after_read, after_write, further, Within}
+use Rattle.std.specs.Prelude.{Result, Ok, Err, IfOk}
+use Rattle.stream.specs.Steps.{moved, Moved, after_read, after_write, further, Within}
 
 module _ (at room : ℕ) where
   -- a read that gave -1 is a failed one
@@ -19,12 +19,12 @@ module _ (at room : ℕ) where
   unfolding after_read
   failed_read = refl
 
-  -- and no other is, of what std's `read` may give: an error, or how many bytes
-  pub failed_read_only : {E : Type 0} (got : Result ℕ E) → after_read (moved got) at room ≡ read_step.Stop Failed → (e : E) × (got ≡ Err e)
-  unfolding after_read moved
-  failed_read_only (Ok zero) e = cc e
-  failed_read_only (Ok (suc k)) e = cc e
-  failed_read_only (Err x) e = (x, refl)
+  -- and no other is, of what `read` may give
+  pub failed_read_only : (n : ℕ) (got : ℤ) → Moved n got → after_read got at room ≡ read_step.Stop Failed → got ≡ negsuc 0
+  unfolding after_read
+  failed_read_only n (pos zero) m e = cc e
+  failed_read_only n (pos (suc k)) m e = cc e
+  failed_read_only n (negsuc k) m e = ap negsuc m
 
   -- a write that gave -1, or took nothing, is a failed one
   pub failed_write : (after_write (negsuc 0) at room ≡ write_step.Failed) × (after_write (pos 0) at room ≡ write_step.Failed)
@@ -36,14 +36,26 @@ module _ (at room : ℕ) where
   unfolding after_write
   taken_write k = refl
 
-  -- the same of what std's calls give
+  -- the same of what std's calls give, an error or how many bytes: an error is a failed read, and nothing else is
   pub error_read : {E : Type 0} (e : E) → after_read (moved (Err e)) at room ≡ read_step.Stop Failed
   unfolding after_read moved
   error_read e = refl
 
+  pub error_read_only : {E : Type 0} (got : Result ℕ E) → after_read (moved got) at room ≡ read_step.Stop Failed → (e : E) × (got ≡ Err e)
+  unfolding after_read moved
+  error_read_only (Ok zero) e = cc e
+  error_read_only (Ok (suc k)) e = cc e
+  error_read_only (Err x) e = (x, refl)
+
   pub error_write : {E : Type 0} (e : E) → after_write (moved (Err e)) at room ≡ write_step.Failed
   unfolding after_write moved
   error_write e = refl
+
+-- what a call for at most n bytes gave is one of the numbers that it may be
+pub given : {E : Type 0} (n : ℕ) (got : Result ℕ E) → IfOk got (λ k. k ≤ n) → Moved n (moved got)
+unfolding moved
+given n (Ok k) m = m
+given n (Err e) m = refl
 
 -- what a step of a reading that stands at `at` comes to: the reading is within its room, or at a further place of it
 abbrev ReadsOn : ℕ → ℕ → ReadStep → Type 0

@@ -1,6 +1,6 @@
 -- What one read makes of a reading, and one write of a writing. std's `read` and `write` give an error, or how many bytes they moved: as one number -1, or how many (`moved`). A read gives 0 at the end of the input.
 -- Stated for every number given, every place and every room. Assumes nothing.
-use Rattle.std.specs.Prelude.{ℕ, zero, suc, ◌+◌, ◌≤◌, min, ℤ, pos, negsuc, Result, Ok, Err}
+use Rattle.std.specs.Prelude.{ℕ, zero, suc, ◌+◌, ◌≤◌, ◌≡◌, min, ℤ, pos, negsuc, Result, Ok, Err}
 use Rattle.stream.specs.declared.Reading.{Reading}
 use Rattle.stream.specs.declared.Reading.TheVariants.{Whole, Failed}
 use Rattle.stream.specs.declared.ReadStep.{ReadStep}
@@ -12,6 +12,11 @@ use Rattle.stream.specs.declared.WriteStep.TheVariants as write_step
 unfoldable pub moved : {E : Type 0} → Result ℕ E → ℤ
 moved (Ok n) = pos n
 moved (Err e) = negsuc 0
+
+-- what that number may be of a call for at most n bytes
+abbrev pub Moved : ℕ → ℤ → Type 0
+Moved n (pos k) = k ≤ n
+Moved n (negsuc k) = k ≡ 0
 
 -- `k` bytes further than `at`, and never past the room
 abbrev pub further : ℕ → ℕ → ℕ → ℕ
