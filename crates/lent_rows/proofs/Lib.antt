@@ -1,3 +1,4 @@
 pub mod Tested
+pub mod StartTest
 pub mod Started
 pub mod One

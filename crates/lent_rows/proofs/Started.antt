@@ -4,20 +4,15 @@
 -- Assumes nothing.
 use Prim.Native.Nat.{ℕ}
 use mathlib.Core.Path.{◌≡◌}
-use mathlib.Core.Bool.{Bool, true, false, ◌&&◌}
+use mathlib.Core.Bool.{Bool, true, false}
 use mathlib.Core.List.{List}
-use lib.Dec.{eqb}
 use lib.ListN.{length}
 use Rattle.relay.specs.Answers.{taken, notValid}
-use Rattle.relay.specs.Kinds.{table_ok}
 use Rattle.relay.specs.Line.{after, told, head, fresh_line, startable, start_of}
 use Rattle.relay.specs.declared.Post.{Post}
-use Rattle.tracks.specs.Circuit.{circuit_ok, after_two, startable_two, start_two}
+use Rattle.tracks.specs.Circuit.{after_two, startable_two, start_two}
 use Rattle.tracks.proofs.Together.{startable_iff}
-
--- the test as the lengths and the tables give it
-abbrev pub tested : ℕ → ℕ → ℕ → List ℕ → List ℕ → Bool
-tested c n m ks js = circuit_ok c && ((eqb n (length ks) && table_ok ks) && ((eqb m (length js) && table_ok js) && eqb (length ks) (length js)))
+use Rattle.lent_rows.proofs.StartTest.{tested}
 
 alone : (l : List Post) (ks : List ℕ) (t : ℕ) → startable l ks ≡ true → start_of l ks t ≡ after (told taken (head 0 t)) (fresh_line ks)
 unfolding start_of
