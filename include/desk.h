@@ -14,10 +14,11 @@
  * desk_check, desk_test, desk_read and desk_write, and the last three for both forms of a sheet, less than 512,
  * whatever they are given, the return address counted and the caller's own use not; they call nothing outside the three
  * archives. (Read off the machine code: docs/FIGURES.md has each figure.) The other calls hold a whole sheet's events,
- * and were seen to need up to 117,904 (desk_work_tracks): they are for the desk's computer.
+ * and were seen to need up to 120,760 (desk_work_tracks): they are for the desk's computer.
  *
  * Link liblent.a (desk_valid, desk_start, desk_event), liblent_rows.a (desk_valid_tracks, desk_start_tracks,
- * desk_event_tracks) and libpanel.a (the others), each alone or with the others; they are for x86-64 Linux.
+ * desk_event_tracks) and libpanel.a (the others), each alone or with the others; they are for Linux on x86-64, a
+ * processor with SSE4.2 (x86-64-v2).
  *
  * The calls whose name ends in _tracks are those of a desk with both tracks on one circuit; the others are those of one
  * track, as they were.
