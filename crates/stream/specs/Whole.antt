@@ -6,7 +6,7 @@ use Rattle.std.specs.declared.option.Option.{Option}
 use Rattle.stream.specs.declared.Reading.{Reading}
 use Rattle.stream.specs.declared.Reading.TheVariants.{Whole, Failed}
 
--- the bytes that a reading counts are those that its reader lost, and where they do not fill the room the reader is at its end; a reading that failed put those that were lost at the front of the room
+-- the bytes that a reading counts are those that its reader lost, and where they do not fill the room the reader is at its end; a reading that failed put those that were lost at the front of the room, and did not fill it
 abbrev pub ReadsWhole : Option (List ℕ) → Option (List ℕ) → Reading → List ℕ → Type 0
 ReadsWhole old new (Whole n) room = Consumes old new (take n room) × (n < length room → IsAtEnd new)
 ReadsWhole old new Failed room = (k : ℕ) × (k < length room) × Consumes old new (take k room)

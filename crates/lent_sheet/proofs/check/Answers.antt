@@ -1,3 +1,4 @@
+-- `lent_sheet::check` meets its contract: the length, and then the sum.
 use Rattle.std.proofs.Common.{eq-eqb, ne_eqb}
 use Rattle.sheet.specs.Check.{checks_alone}
 use Rattle.lent_sheet.proofs.check.Goals as goal

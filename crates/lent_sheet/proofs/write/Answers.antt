@@ -1,3 +1,4 @@
+-- `write` meets its contract: a sheet of one track is laid as one of either form, with no tracks.
 use Rattle.std.proofs.Common.{◌≡◌, ℕ, Bool, true, false, ◌&&◌, eqb, List, length, sym, refl, ◌∙◌, arith, eq-eqb}
 use borrow.Author.Tests.{not-true, not-false}
 use Rattle.relay.specs.Kinds.{table_ok}

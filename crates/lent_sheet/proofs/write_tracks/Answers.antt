@@ -1,3 +1,4 @@
+-- `write_tracks` meets its contract: the table, the fields and the tracks are tested, and the sheet is laid.
 use Rattle.std.proofs.Common.{◌≡◌, ℕ, true, false, ◌&&◌, List, length, sym, ◌∙◌}
 use borrow.Author.Tests.{not-true, not-false}
 use Rattle.sheet.specs.Reading.{form_ok, table_fits}

@@ -1,3 +1,4 @@
+-- `lent::array::event_on` meets its contract: the call on the first records decides, and they are the first of those that there are.
 use Rattle.std.proofs.Common.{◌≡◌, length, List, arith}
 use Rattle.relay.specs.Line.{event_of}
 use Rattle.relay.specs.declared.Post.{Post}

@@ -1,3 +1,4 @@
+-- `lent::array::start_on` meets its contract: the call on the first records decides, and they are the first of those that there are. The table of kinds goes to it as it came.
 use Rattle.std.proofs.Common.{◌≡◌, length, List, arith}
 use Rattle.relay.specs.Line.{start_of}
 use Rattle.relay.specs.declared.Post.{Post}

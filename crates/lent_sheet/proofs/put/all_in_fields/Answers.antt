@@ -1,3 +1,4 @@
+-- `put::all_in_fields` meets its contract: what is left of the events decides.
 use Rattle.std.proofs.Common.{sym, ◌∙◌, arith, rules}
 use borrow.Author.Tests.{not-true, not-false}
 use Rattle.sheet.proofs.Fields.{stops, goes, ended}

@@ -1,3 +1,4 @@
+-- `put::block` meets its contract: the count, a word and a stamp for each event with zeros past them, and the check are the block in its order.
 use Rattle.std.proofs.Common.{◌≡◌, ◌+◌, ◌*◌, length, sym, refl, ◌∙◌, arith, rules}
 use Rattle.sheet.specs.Words.{put_word}
 use Rattle.sheet.specs.Sheet.{held}

@@ -1,3 +1,4 @@
+-- `put::head` meets its contract: three words, the kinds with zeros past them, and the check are block 0 in its order.
 use Rattle.std.proofs.Common.{◌≡◌, ℕ, length, get_or, sym, refl, ◌∙◌, arith, rules}
 use Rattle.sheet.specs.Sheet.{posts_of}
 use Rattle.sheet.specs.Words.{put_word}

@@ -1,3 +1,4 @@
+-- `put::pair_in` meets its contract: up to the last event its word and stamp, and zeros past it.
 use Rattle.std.proofs.Common.{◌+◌, ◌*◌, ◌<◌, ◌≤◌, length, sym, ◌∙◌, arith}
 use Rattle.sheet.specs.Sheet.{held}
 use Rattle.sheet.specs.Puts.{events_only}

@@ -1,3 +1,4 @@
+-- `put::set_check` meets its contract: the wrapping difference is the one word that brings the sum to the target.
 use Rattle.std.proofs.Common.{◌≡◌, ◌+◌, ◌*◌, ◌%◌, ◌^◌, ap, ◌∙◌, arith}
 use Rattle.sheet.specs.Words.{put_word}
 use Rattle.sheet.specs.Check.{sum, word, target}

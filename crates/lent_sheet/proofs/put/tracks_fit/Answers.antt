@@ -1,3 +1,4 @@
+-- `lent_sheet::put::tracks_fit` meets its contract: what is left of the tracks decides.
 use Rattle.std.proofs.Common.{sym, refl, arith, rules, le-ltb, lt-ltb, eq-eqb, ne_eqb}
 use Rattle.sheet.specs.Writing.{tracks_fit}
 use Rattle.sheet.proofs.Along.{stops, goes, ended}

@@ -1,3 +1,4 @@
+-- `put::whole` meets its contract: each refusal comes before the first store, and block 0 and then the event blocks are the whole sheet.
 use Rattle.std.proofs.Common.{◌≡◌, ◌+◌, ◌/◌, ◌++◌, length, drop, sym, refl, ◌∙◌, arith, rules}
 use Rattle.sheet.specs.Sheet.{encode_tracked}
 use Rattle.sheet.specs.Writing.{bytes_for}

@@ -1,3 +1,4 @@
+-- `clock::is_behind` meets its contract: the wrapped difference, read as a signed number, is the definition's.
 use Rattle.std.proofs.Common.{◌≡◌, ℤ, pos, ap, ◌∙◌, arith, to_z-of_z, w32, to_z}
 use borrow.Author.Rules.{sfits_of}
 use lib.Signed.{lt_z}
