@@ -1,13 +1,13 @@
 -- The pass over the records is the rule of a line that may be used: each post and each section is tested once, the last post with its section.
 --     pass-valid       `valid` is what is tested before the records, and the pass
---     decides          the answer, from both
---     stops, goes      a step of the loop at post i that fails, and one that passes: what is left decides
+--     unusable         the answer, from what is tested before the records
+--     decided          the answer, from the pass
+--     stops, goes      a step of the loop, the section upstream of post j, that fails, and one that passes: what is left decides
 --     ended            no section is left
 -- Assumes nothing.
 use mathlib.Core.Path.{◌≡◌, refl, sym, ◌∙◌, ap}
-use Prim.Native.Nat.{ℕ, suc, ◌<◌, ◌≤◌, ◌+◌}
+use Prim.Native.Nat.{ℕ, suc, ◌<◌, ◌≤◌, ◌+◌, ◌-◌}
 use native.Mathlib.Omega.{arith}
-use native.Mathlib.Numerals.{add-one}
 use mathlib.Core.Bool.{Bool, true, false, ◌&&◌, and-true, and-false, and_assoc}
 use mathlib.Core.List.{List, [], ◌∷◌}
 use lib.ListN.{length, drop, length-drop}
@@ -54,8 +54,11 @@ pass-valid (p ∷ d ∷ ds) s =
     ap (λ (u : Bool). count_fits m && (leb s.taken most_events && u)) (same_tests m s.taken 0 p d ds all)
     ∙ sym (and_assoc (count_fits m) (leb s.taken most_events) (pairs m 0 s.taken (p ∷ d ∷ ds)))
 
-pub decides : (l : List Post) (s : Head) (u v : Bool) → (count_fits (length l) && leb s.taken most_events) ≡ u → pairs (length l) 0 s.taken l ≡ v → (u && v) ≡ valid l s
-decides l s u v eu ev = sym (pass-valid l s ∙ rw (eu, ev))
+pub unusable : (l : List Post) (s : Head) → (count_fits (length l) && leb s.taken most_events) ≡ false → false ≡ valid l s
+unusable l s e = sym (pass-valid l s ∙ rw e)
+
+pub decided : (l : List Post) (s : Head) (v : Bool) → (count_fits (length l) && leb s.taken most_events) ≡ true → pairs (length l) 0 s.taken l ≡ v → v ≡ valid l s
+decided l s v e f = sym (pass-valid l s ∙ rw (e, f))
 
 -- ---- the steps of the loop, on a line of n posts
 none_left : (n i t : ℕ) (l : List Post) → length l ≤ 1 → pairs n i t l ≡ true
@@ -64,26 +67,29 @@ none_left n i t [] h = refl
 none_left n i t (p ∷ []) h = refl
 none_left n i t (p ∷ d ∷ ds) h = absurd (omega arith)
 
-module _ (ys : List Post) (t i : ℕ) where
-  abbrev n : ℕ
-  n = length ys
+module _ (ys : List Post) (n t j : ℕ) (long : length ys ≡ n) (first : 1 ≤ j) (inv : pairs n (j - 1) t (drop (j - 1) ys) ≡ pairs n 0 t ys) where
+  module _ (less : j < n) where
+    opened : pairs n (j - 1) t (drop (j - 1) ys) ≡ (pair_ok n (j - 1) t (at ys (j - 1)) (at ys j) && pairs n j t (drop j ys))
+    unfolding pairs pairs_from
+    opened =
+        let next : suc (j - 1) ≡ j = omega arith in
+        let e₁ : drop (j - 1) ys ≡ at ys (j - 1) ∷ drop j ys = rw next at (drop-cons ys (j - 1) blank (omega arith)) in
+        let e₂ : drop j ys ≡ at ys j ∷ drop (suc j) ys = drop-cons ys j blank (omega arith) in
+        let i+1 : j - 1 + 1 ≡ j = omega arith in
+        rw e₁ (rw e₂ (rw i+1 refl))
 
-  opened : i + 1 < n → pairs n i t (drop i ys) ≡ (pair_ok n i t (at ys i) (at ys (i + 1)) && pairs n (i + 1) t (drop (i + 1) ys))
-  unfolding pairs pairs_from
-  opened less =
-      let l : i < n = omega arith in
-      let e₁ : drop i ys ≡ at ys i ∷ drop (i + 1) ys = rw (add-one i) (drop-cons ys i blank l) in
-      let e₂ : drop (i + 1) ys ≡ at ys (i + 1) ∷ drop (suc (i + 1)) ys = drop-cons ys (i + 1) blank less in
-      rw e₁ (rw e₂ refl)
+    pub stops : pair_ok n (j - 1) t (at ys (j - 1)) (at ys j) ≡ false → pairs n 0 t ys ≡ false
+    stops e = sym inv ∙ opened ∙ ap (λ (u : Bool). u && pairs n j t (drop j ys)) e
 
-  module _ (less : i + 1 < n) (inv : pairs n i t (drop i ys) ≡ pairs n 0 t ys) where
-    pub stops : pair_ok n i t (at ys i) (at ys (i + 1)) ≡ false → pairs n 0 t ys ≡ false
-    stops e = sym inv ∙ opened less ∙ ap (λ (u : Bool). u && pairs n (i + 1) t (drop (i + 1) ys)) e
+    pub goes : pair_ok n (j - 1) t (at ys (j - 1)) (at ys j) ≡ true → pairs n (j + 1 - 1) t (drop (j + 1 - 1) ys) ≡ pairs n 0 t ys
+    goes e =
+        let same : j + 1 - 1 ≡ j = omega arith in
+        rw same (sym (opened ∙ ap (λ (u : Bool). u && pairs n j t (drop j ys)) e) ∙ inv)
 
-    pub goes : pair_ok n i t (at ys i) (at ys (i + 1)) ≡ true → pairs n (i + 1) t (drop (i + 1) ys) ≡ pairs n 0 t ys
-    goes e = sym (opened less ∙ ap (λ (u : Bool). u && pairs n (i + 1) t (drop (i + 1) ys)) e) ∙ inv
+  pub ended : n ≤ j → pairs n 0 t ys ≡ true
+  ended past =
+      let h : length (drop (j - 1) ys) ≤ 1 = omega (arith, length-drop (j - 1) ys) in
+      sym inv ∙ none_left n (j - 1) t (drop (j - 1) ys) h
 
-  pub ended : n ≤ i + 1 → pairs n i t (drop i ys) ≡ pairs n 0 t ys → pairs n 0 t ys ≡ true
-  ended past inv =
-      let h : length (drop i ys) ≤ 1 = omega (arith, length-drop i ys) in
-      sym inv ∙ none_left n i t (drop i ys) h
+-- what proves the loop: the tests before it, its steps, its end
+pub ruleset pass = (unusable, decided, stops, goes, ended)

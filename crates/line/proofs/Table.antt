@@ -1,15 +1,14 @@
--- What the loop over a table of kinds is tied to: one kind more, and what is left decides.
+-- What the test of a table of kinds is tied to: every kind at its place; in a loop, one kind more, and what is left decides.
 -- Assumes nothing.
-use mathlib.Core.Path.{◌≡◌, sym, ◌∙◌, ap}
+use mathlib.Core.Path.{◌≡◌, refl, sym, ◌∙◌, ap}
 use Prim.Native.Nat.{ℕ, ◌<◌, ◌≤◌, ◌+◌}
 use native.Mathlib.Numerals.{add-one}
 use mathlib.Core.Bool.{Bool, true, false, ◌&&◌}
-use mathlib.Core.List.{List, ◌∷◌}
+use mathlib.Core.List.{List, [], ◌∷◌}
 use lib.ListN.{length, drop, get_or, drop_of_length-le}
 use lib.Seq.{drop-cons}
-use lib.Dec.{eqb}
-use borrow.Author.Tests.{eq-eqb}
-use Rattle.relay.specs.Kinds.{count_fits, kind_fits, kinds_fit, table_ok}
+use Rattle.std.specs.List.{list_all, enumerate_from}
+use Rattle.relay.specs.Kinds.{kind_fits, kinds_fit}
 
 -- the kinds from i on
 abbrev pub Rest : List ℕ → ℕ → Bool
@@ -32,7 +31,8 @@ pub ended : (ks : List ℕ) (i : ℕ) → length ks ≤ i → Rest ks i ≡ Rest
 unfolding kinds_fit
 ended ks i past inv = sym inv ∙ ap (kinds_fit (length ks) i) (drop_of_length-le ks past)
 
--- the answer, once the row is known to be as long as the table
-pub decides : (ks : List ℕ) (m : ℕ) (u t : Bool) → m ≡ length ks → count_fits (length ks) ≡ u → Rest ks 0 ≡ t → (u && t) ≡ (eqb m (length ks) && table_ok ks)
-unfolding table_ok
-decides ks m u t e eu et = rw (eq-eqb m (length ks) e, eu, et)
+-- every kind at its place, as the code has it, is the rule of the kinds from place i on
+pub all_fit : (n i : ℕ) (ks : List ℕ) → list_all (λ p. kind_fits n p.0 p.1) (enumerate_from i ks) ≡ kinds_fit n i ks
+unfolding kinds_fit
+all_fit n i [] = refl
+all_fit n i (k ∷ ks) = ap (λ (t : Bool). kind_fits n i k && t) (all_fit n (i + 1) ks)

@@ -2,6 +2,7 @@
 --     event_invalid    1: the line is as it was
 --     event_gated      3, 2, 5 or 4: the line is as it was
 --     event-worked     past them: what the by-value core makes of the two posts, stored over them. A refused core gives them back as they were
+--     core-refused, core-taken     that core by the two outcomes of `step::gate::attempt`
 --     gate_open        what the gate has tested when it gives 0
 --     in_row           past them, the post named and its neighbour are two posts of the line
 -- Assumes nothing.
@@ -13,17 +14,16 @@ use mathlib.Core.List.{List, [], ◌∷◌}
 use lib.Dec.{eqb, leb, ltb}
 use lib.ListN.{length, set}
 use borrow.Author.Tests.{ne_eqb, leb-true, ltb-true, eqb-true, eqb-false, not-false}
-use Rattle.relay.specs.Answers.{notValid, noSuchEvent, noSuchPlace, sessionFull, stampBehind}
-use Rattle.relay.specs.Choice.{pick}
+use Rattle.relay.specs.Answers.{taken, notValid, noSuchEvent, noSuchPlace, sessionFull, stampBehind}
+use Rattle.relay.specs.Choice.{pick, grown}
 use Rattle.relay.specs.Clock.{behind}
-use Rattle.relay.specs.Events.{pair, refusal}
+use Rattle.relay.specs.Events.{pair, refusal, changed}
 use Rattle.relay.specs.Kinds.{count_fits}
-use Rattle.relay.specs.Line.{after, told, numbered, names_section, present, neighbour, gate, answer_of, changed_line, event_of, worked, work_of}
+use Rattle.relay.specs.Line.{after, head, told, numbered, names_section, present, neighbour, gate, answer_of, changed_line, event_of, worked, work_of, Worked}
 use Rattle.relay.specs.Posts.{at}
 use Rattle.relay.specs.Valid.{most_events, valid}
 use Rattle.relay.specs.declared.Head.{Head}
 use Rattle.relay.specs.declared.Post.{Post}
-use Rattle.relay.specs.declared.Worked.{Worked}
 
 -- ---- what the event is
 module _ (l : List Post) (s : Head) (n i t : ℕ) where
@@ -65,6 +65,16 @@ module _ (l : List Post) (s : Head) (n i t : ℕ) where
   pub event-worked : valid l s ≡ true → gate (length l) s n i t ≡ 0 → event_of l s n i t ≡ after (core l s n i t).told (stored l n i (core l s n i t))
   unfolding answer_of
   event-worked e eg = by_own (eqb own 0) refl (rw (e, eg))
+
+-- what the by-value core returns says it whole: refused, by its number; taken, with the two posts that the event makes
+module _ (s : Head) (n t : ℕ) (p o : Post) where
+  pub core-refused : (m : ℕ) → m ≡ refusal n p.kind p.word o.word → (m ≡ 0 → ⊥) → work_of s n t p o ≡ worked (told m s) (pair p o)
+  unfolding work_of
+  core-refused m e ne = let h : eqb m 0 ≡ false = ne_eqb m 0 ne in rw (← e, h) refl
+
+  pub core-taken : 0 ≡ refusal n p.kind p.word o.word → work_of s n t p o ≡ worked (told taken (head (grown s.taken) t)) (changed n p o)
+  unfolding work_of
+  core-taken e = rw (← e) refl
 
 -- ---- past the gate
 -- 3, 2, 5 and 4 are not given

@@ -12,7 +12,6 @@ use Rattle.relay.specs.declared.Head.{Head}
 use Rattle.relay.specs.declared.Pair.{Pair}
 use Rattle.relay.specs.declared.Post.{Post}
 use Rattle.relay.specs.declared.Told.{Told}
-use Rattle.relay.specs.declared.Worked.{Worked}
 
 -- a session head: events taken so far, last stamp
 abbrev pub head : ℕ → ℕ → Head
@@ -93,7 +92,12 @@ event_of l s n i t =
     (after (told taken (head (grown s.taken) t)) (changed_line l n i))
     (after (told (answer_of l s n i t) s) l)
 
--- ---- the same at the two posts alone, once 1, 3, 2, 5 and 4 are past: what the by-value core is
+-- ---- the same at the two posts alone, once 1, 3, 2, 5 and 4 are past: what is returned, and the two posts afterwards
+pub record Worked : Type 0 where
+  pub told : Told
+  pub here : Post
+  pub other : Post
+
 abbrev pub worked : Told → Pair → Worked
 worked t b = record { told = t; here = b.here; other = b.other }
 

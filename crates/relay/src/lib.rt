@@ -3,16 +3,13 @@
 
 #![tactic(auto)]
 
-// The kinds of post.
-pub const ORIGIN: u32 = 0;
+mod event;
+mod form;
+mod refusal;
 
-pub const TERMINUS: u32 = 1;
-
-pub const PEDAL_STATION: u32 = 2;
-
-pub const ANNOUNCEMENT_STATION: u32 = 3;
-
-pub const INTERMEDIATE: u32 = 4;
+pub use event::Event;
+pub use form::Form;
+pub use refusal::Refusal;
 
 // So much greater is the short form of a kind from 1 to 4.
 pub const SHORT: u32 = 16;
@@ -38,56 +35,15 @@ pub const JAM: u32 = 256;
 
 pub const ALL: u32 = 511;
 
-// The numbers returned.
+// The number returned where nothing is refused; `Refusal` has the others.
 pub const TAKEN: u32 = 0;
-
-pub const NOT_VALID: u32 = 1;
-
-pub const NO_SUCH_PLACE: u32 = 2;
-
-pub const NO_SUCH_EVENT: u32 = 3;
-
-pub const STAMP_BEHIND: u32 = 4;
-
-pub const SESSION_FULL: u32 = 5;
-
-pub const NO_DEVICE: u32 = 6;
-
-pub const LEVER_THERE: u32 = 7;
-
-pub const L_DOWN: u32 = 8;
-
-pub const RL_DOWN: u32 = 9;
-
-pub const LEVER_REVERSED: u32 = 10;
-
-pub const AN_DOWN: u32 = 11;
-
-pub const KPG_DOWN: u32 = 12;
-
-pub const RL_UP: u32 = 13;
-
-pub const NOTHING_UNDER_WAY: u32 = 14;
-
-pub const SECTION_FREE: u32 = 15;
-
-pub const SIGNAL_UNDER_WAY: u32 = 16;
-
-pub const AN_UP: u32 = 17;
-
-pub const BUTTON_JAMMED: u32 = 22;
-
-pub const BUTTON_FREE: u32 = 23;
-
-// The number of the last event.
-pub const LAST_EVENT: u32 = 12;
 
 // The most events of a session.
 pub const MOST_EVENTS: u32 = 1000000;
 
 // The record of one post: its relay word, its kind, the five counts of the section downstream and the four of the section upstream.
 #[repr(C)]
-#[derive(Clone, Copy)]
+#[derive(Clone, Copy, Default, PartialEq, Eq)]
 pub struct Post {
     pub word: u32,
     pub kind: u32,
@@ -104,13 +60,13 @@ pub struct Post {
 
 // The session head: events taken so far, last stamp.
 #[repr(C)]
-#[derive(Clone, Copy)]
+#[derive(Clone, Copy, PartialEq, Eq)]
 pub struct Head {
     pub taken: u32,
     pub last: u32,
 }
 
-// What a call returns: its number and the head.
+// What a call returns: its number and the head. C is given it so.
 #[repr(C)]
 #[derive(Clone, Copy)]
 pub struct Told {
@@ -121,14 +77,6 @@ pub struct Told {
 // The post that an event names, and its neighbour.
 #[derive(Clone, Copy)]
 pub struct Pair {
-    pub here: Post,
-    pub other: Post,
-}
-
-// An event at the post named and its neighbour: what is returned, and the two posts afterwards.
-#[derive(Clone, Copy)]
-pub struct Worked {
-    pub told: Told,
     pub here: Post,
     pub other: Post,
 }

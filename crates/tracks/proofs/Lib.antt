@@ -10,3 +10,4 @@ pub mod Demand
 pub mod Given
 pub mod Vibrated
 pub mod Examples
+pub mod Numbers

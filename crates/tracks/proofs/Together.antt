@@ -2,22 +2,24 @@
 -- The test goes along the sections; the section that faces the facing one is the first.
 use Prim.Native.Nat.{ℕ, zero, suc, ◌+◌, ◌-◌, ◌<◌}
 use mathlib.Core.Path.{◌≡◌, refl, sym, ◌∙◌}
-use mathlib.Core.Bool.{true, false, false≢true}
+use mathlib.Core.Bool.{Bool, true, false, ◌&&◌, false≢true}
 use mathlib.Core.List.{List, [], ◌∷◌}
 use mathlib.Core.Logic.{◌↔◌, ◌⊎◌}
 use native.Mathlib.Omega.{arith}
 use lib.Dec.{eqb}
 use lib.ListN.{length}
+use Rattle.relay.specs.Choice.{requires}
 use Rattle.relay.specs.Line.{head, fresh_line, startable}
 use Rattle.relay.specs.Kinds.{terminus, ordinary}
 use Rattle.relay.specs.Posts.{fresh_word, fresh_post}
 use Rattle.relay.specs.Relays.{up, raise}
+use Rattle.relay.specs.Valid.{valid}
 use Rattle.relay.specs.declared.Head.{Head}
 use Rattle.relay.specs.declared.Post.{Post}
 use Rattle.relay.proofs.Fresh.{length-fresh}
 use Rattle.relay.proofs.Kept.{fresh-valid}
 use Rattle.relay.proofs.Truth.{facts, split, equal_or_not}
-use Rattle.tracks.specs.Circuit.{polarised, vibrated, on_wire, busy, facing, clear, apart, valid_two, startable_two}
+use Rattle.tracks.specs.Circuit.{polarised, vibrated, on_wire, busy, facing, circuit_ok, clear, apart, beside_ok, valid_two, startable_two}
 use Rattle.tracks.proofs.CircuitKinds.{ValidTwo, circuit_iff}
 
 -- no two sections that face each other both have a signal under way
@@ -124,3 +126,15 @@ fresh_two c l k ks js t e =
       long = length-fresh ks ∙ f.long ∙ sym (length-fresh js);
       alone = λ z i h b. fresh-quiet js _;
     }
+
+-- ---- the test of both, by the own line and the rest
+pub two_parts : (c : ℕ) (l k : List Post) (s : Head) → (valid l s && beside_ok c l k s) ≡ valid_two c l k s
+unfolding valid_two beside_ok
+two_parts c l k s =
+    turned (circuit_ok c) (valid l s) (valid k s && (eqb (length l) (length k) && requires (eqb c polarised) (apart l k (length l - 1))))
+  where
+    turned : (a b d : Bool) → (b && (a && d)) ≡ (a && (b && d))
+    turned true true d = refl
+    turned true false d = refl
+    turned false true d = refl
+    turned false false d = refl

@@ -4,15 +4,14 @@
 use Rattle.std.specs.Prelude.{ℕ, zero, suc, ◌-◌, ◌≡◌, Bool, true, not, ◌&&◌, ◌||◌, List, eqb, length}
 use Rattle.relay.specs.Answers.{taken, notValid, noSuchPlace, noSuchEvent}
 use Rattle.relay.specs.Choice.{pick, requires}
-use Rattle.relay.specs.Events.{pair}
-use Rattle.relay.specs.Line.{After, after, head, told, fresh_line, startable, numbered, answer_of, event_of, worked, work_of}
+use Rattle.relay.specs.Events.{pair, refusal}
+use Rattle.relay.specs.Line.{After, after, head, told, fresh_line, startable, numbered, answer_of, event_of, worked, work_of, Worked}
 use Rattle.relay.specs.Posts.{at}
 use Rattle.relay.specs.Relays.{W314, W241, up}
 use Rattle.relay.specs.Valid.{valid}
 use Rattle.relay.specs.declared.Head.{Head}
 use Rattle.relay.specs.declared.Post.{Post}
 use Rattle.relay.specs.declared.Told.{Told}
-use Rattle.relay.specs.declared.Worked.{Worked}
 
 -- ---- the circuit
 -- 'the circuit kind (0 polarised, 1 vibrated)'
@@ -59,6 +58,11 @@ valid_two c l k s =
     && (valid l s
     && (valid k s && (eqb (length l) (length k) && requires (eqb c polarised) (apart l k (length l - 1)))))
 
+-- what `valid_two` asks but that the track's own line may be used
+unfoldable pub beside_ok : ℕ → List Post → List Post → Head → Bool
+beside_ok c l k s =
+    circuit_ok c && (valid k s && (eqb (length l) (length k) && requires (eqb c polarised) (apart l k (length l - 1))))
+
 -- ---- one event on a track
 -- 'for events 5, 6 and 7': they send a signal
 unfoldable pub sends : ℕ → Bool
@@ -95,7 +99,11 @@ unfoldable pub event_on : ℕ → List Post → List Post → Head → ℕ → �
 event_on c l k s n i t =
     pick (eqb (answer_on c l k s n i t) taken) (event_of l s n i t) (after (told (answer_on c l k s n i t) s) l)
 
--- the same at the post named, its neighbour and the word of the facing post alone, once 1, 3, 2, 5 and 4 are past: what the by-value core is
+-- the answer at the post named, its neighbour and the facing post alone, once 1, 3, 2, 5 and 4 are past: k is the kind and w the word of the post named, z and v the words of the others
+unfoldable pub refusal_beside : ℕ → ℕ → ℕ → ℕ → ℕ → ℕ → ℕ
+refusal_beside c n k w z v = pick (at_last (refusal n k w z) (hinders c n v)) circuit_busy (refusal n k w z)
+
+-- the same with the posts that it leaves
 unfoldable pub work_on : ℕ → Head → ℕ → ℕ → Post → Post → ℕ → Worked
 work_on c s n t p o w =
     pick (at_last (work_of s n t p o).told.answer (hinders c n w))

@@ -2,3 +2,4 @@ pub mod Circuit
 pub mod Desk
 pub mod Given
 pub mod Examples
+pub mod Numbers

@@ -3,16 +3,8 @@
 #![tactic(auto)]
 
 pub mod circuit;
+mod refusal;
+mod track;
 
-// The circuit kinds.
-pub const POLARISED: u32 = 0;
-
-pub const VIBRATED: u32 = 1;
-
-// The number returned when the shared circuit is busy.
-pub const CIRCUIT_BUSY: u32 = 25;
-
-// The tracks, by their numbers.
-pub const TRACK_ONE: u32 = 0;
-
-pub const TRACK_TWO: u32 = 1;
+pub use refusal::Refusal;
+pub use track::Track;
