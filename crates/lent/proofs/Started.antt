@@ -11,15 +11,12 @@ use Rattle.relay.specs.Answers.{taken, notValid}
 use Rattle.relay.specs.Kinds.{table_ok}
 use Rattle.relay.specs.Line.{After, after, told, head, fresh_line, startable, start_of}
 use Rattle.relay.specs.declared.Post.{Post}
-use Rattle.relay.proofs.Fresh.{length-fresh}
+use Rattle.relay.proofs.Fresh.{length-fresh, stored, all_stored, covers}
+use Rattle.relay.proofs.Truth.{and_facts}
 
 module _ (ys : List Post) (ks : List ℕ) where
-  same_at : (t : Bool) → eqb (length ys) (length ks) ≡ t → (t && table_ok ks) ≡ true → length ys ≡ length ks
-  same_at true e h = eqb-true (length ys) (length ks) e
-  same_at false e h = eqb-true (length ys) (length ks) (e ∙ h)
-
   pub same_length : (eqb (length ys) (length ks) && table_ok ks) ≡ true → length ys ≡ length ks
-  same_length h = same_at (eqb (length ys) (length ks)) refl h
+  same_length h = eqb-true (length ys) (length ks) ((and_facts (eqb (length ys) (length ks)) (table_ok ks)).0 h).0
 
   pub refused : (t : ℕ) → (eqb (length ys) (length ks) && table_ok ks) ≡ false → start_of ys ks t ≡ after (told notValid (head 0 0)) ys
   unfolding start_of startable
@@ -36,3 +33,6 @@ started_by l ks t false e = ap (λ (a : After). length a.line) (refused l ks t e
 
 pub length-started : (l : List Post) (ks : List ℕ) (t : ℕ) → length (start_of l ks t).line ≡ length l
 length-started l ks t = started_by l ks t (eqb (length l) (length ks) && table_ok ks) refl
+
+-- what proves the loop that starts a row: the test before it, its steps, its end
+pub ruleset starts = (same_length, refused, started, stored, all_stored, covers)

@@ -9,7 +9,7 @@ use relay::{Head, Post, Told};
 // The records of an array: one more than a line may have, so that a row too long for a line can be lent too.
 pub const ROOM: usize = 33;
 
-// What a call returns, and the array that it leaves.
+// What a call returns, and the array that it leaves, also refused.
 #[derive(Clone, Copy)]
 pub struct Kept {
     pub told: Told,
@@ -20,45 +20,35 @@ pub struct Kept {
 fn at_most(n: usize) -> usize
     ensures { result ≡ min n room }
 {
-    if n < ROOM {
-        return n;
-    }
-    ROOM
+    n.min(ROOM)
 }
 
 // One event on the row.
-pub fn event_on(posts: [Post; ROOM], n: usize, s: Head, number: u32, place: u32, stamp: u32) -> Kept
+pub fn event_on(
+    mut posts: [Post; ROOM],
+    n: usize,
+    s: Head,
+    number: u32,
+    place: u32,
+    stamp: u32,
+) -> Kept
     ensures { result ≡ event_on posts n s number place stamp }
 {
-    let m = at_most(n);
-    let mut line = posts;
-    let told = crate::desk_event(&mut line[..m], s, number, place, stamp);
-    let left = line;
-    Kept {
-        told: told,
-        posts: left,
-    }
+    let told = crate::desk_event(&mut posts[..at_most(n)], s, number, place, stamp);
+    Kept { told, posts }
 }
 
 // The row started from a table of kinds.
-pub fn start_on(posts: [Post; ROOM], n: usize, kinds: &[u32], stamp: u32) -> Kept
+pub fn start_on(mut posts: [Post; ROOM], n: usize, kinds: &[u32], stamp: u32) -> Kept
     ensures { result ≡ start_on posts n kinds.now stamp }
 {
-    let m = at_most(n);
-    let mut row = posts;
-    let told = crate::desk_start(&mut row[..m], kinds, stamp);
-    let left = row;
-    Kept {
-        told: told,
-        posts: left,
-    }
+    let told = crate::desk_start(&mut posts[..at_most(n)], kinds, stamp);
+    Kept { told, posts }
 }
 
 // Whether the row may be used as a line with this head.
 pub fn valid_on(posts: [Post; ROOM], n: usize, s: Head) -> bool
     ensures { result ≡ valid (take n posts) s }
 {
-    let m = at_most(n);
-    let row = posts;
-    crate::desk_valid(&row[..m], s)
+    crate::desk_valid(&posts[..at_most(n)], s)
 }

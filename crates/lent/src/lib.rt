@@ -3,14 +3,16 @@
 #![tactic(auto)]
 
 ghost use Rattle.std.specs.Prelude.{◌≡◌};
-ghost use Rattle.relay.specs.Line.{start_of, event_of, Gives};
+ghost use Rattle.relay.specs.Line.{start_of, answer_of, event_of, Gives};
+ghost use Rattle.relay.specs.Numbers.{refusal_code};
 ghost use Rattle.relay.specs.Valid.{valid};
 
 pub mod array;
 
-use relay::{Head, Post, Told};
+use relay::{Head, Pair, Post, Refusal, Told};
 
 // Whether the line may be used: one pass over the records, left at the first that breaks a rule.
+#[tactic(auto, using(line::proofs::Pass::pass))]
 pub fn desk_valid(row: &[Post], s: Head) -> bool
     ensures { result ≡ valid row.now s }
 {
@@ -18,49 +20,53 @@ pub fn desk_valid(row: &[Post], s: Head) -> bool
     if !line::usable(n, s) {
         return false;
     }
-    let mut i: usize = 0;
-    let mut j: usize = 1;
-    while j < n {
-        if !line::pair_ok(row[i], row[j], i, n, s.taken) {
+    for j in 1..n {
+        if !line::pair_ok(row[j - 1], row[j], j - 1, n, s.taken) {
             return false;
         }
-        i = j;
-        j += 1;
     }
     true
 }
 
 // A fresh line from a table of kinds; refused, the row is as it was and the head is of zeros.
+#[tactic(auto, using(crate::proofs::Started::starts))]
 pub fn desk_start(row: &mut [Post], kinds: &[u32], stamp: u32) -> Told
     ensures { Gives (start_of row.old kinds.now stamp) result row.new }
 {
-    let n = row.len();
-    if !line::may_start(n, kinds) {
-        return step::gate::tell(relay::NOT_VALID, 0, 0);
+    if !line::may_start(row.len(), kinds) {
+        return step::gate::tell(Refusal::NotValid.number(), 0, 0);
     }
-    let mut i: usize = 0;
-    while i < n {
-        row[i] = line::fresh(kinds[i]);
-        i += 1;
+    for (i, post) in row.iter_mut().enumerate() {
+        *post = line::fresh(kinds[i]);
     }
     step::gate::tell(relay::TAKEN, 0, stamp)
 }
 
+// Alters the post or section `place`, and at most one neighbour of it, or says why the event is refused; refused, the row is as it was.
+#[tactic(auto, unfolding(relay::specs::Line::answer_of, relay::specs::Line::event_of, relay::specs::Line::changed_line))]
+fn alter(row: &mut [Post], s: Head, number: u32, place: u32, stamp: u32) -> Result<(), Refusal>
+    ensures code { refusal_code result ≡ answer_of row.old s number place stamp }
+    ensures line { row.new ≡ (event_of row.old s number place stamp).line }
+{
+    if !desk_valid(row, s) {
+        return Err(Refusal::NotValid);
+    }
+    step::gate::gate_refusal(row.len(), s, number, place, stamp)?;
+    let i = place as usize;
+    let j = step::gate::neighbour_of(number, place);
+    let Pair { here, other } = step::gate::attempt(row[i], row[j], number)?;
+    row[i] = here;
+    row[j] = other;
+    Ok(())
+}
+
 // One event: the post or section `place`, and at most one neighbour of it, altered in place; refused, the row is as it was.
+#[tactic(auto, unfolding(relay::specs::Line::event_of))]
 pub fn desk_event(row: &mut [Post], s: Head, number: u32, place: u32, stamp: u32) -> Told
     ensures { Gives (event_of row.old s number place stamp) result row.new }
 {
-    if !desk_valid(row, s) {
-        return step::gate::refuse(relay::NOT_VALID, s);
+    match alter(row, s, number, place, stamp) {
+        Ok(()) => step::gate::tell(relay::TAKEN, step::events::grow(s.taken), stamp),
+        Err(refusal) => step::gate::refuse(refusal.number(), s),
     }
-    let no = step::gate::gate_refusal(row.len(), s, number, place, stamp);
-    if no != 0 {
-        return step::gate::refuse(no, s);
-    }
-    let i = place as usize;
-    let j = step::gate::neighbour_of(number, place);
-    let out = step::gate::work(row[i], row[j], s, number, stamp);
-    row[i] = out.here;
-    row[j] = out.other;
-    out.told
 }

@@ -2,53 +2,86 @@
 
 #![tactic(auto)]
 
-ghost use Rattle.std.specs.Prelude.{◌≡◌, ◌&&◌, eqb, length};
+ghost use Rattle.std.specs.Prelude.{◌≡◌, ◌-◌, ◌&&◌, eqb, length};
 ghost use Rattle.relay.specs.Kinds.{table_ok};
 ghost use Rattle.relay.specs.Line.{Gives};
-ghost use Rattle.tracks.specs.Circuit.{circuit_ok, valid_two, event_on, event_two, GivesTwo, start_two};
+ghost use Rattle.relay.specs.Numbers.{number_of_refusal};
+ghost use Rattle.tracks.specs.Circuit.{circuit_ok, apart, beside_ok, valid_two, answer_on, event_on, nowhere, event_two, GivesTwo, start_two};
+ghost use Rattle.tracks.specs.Numbers.{refusal_code};
 
-use relay::{Head, Post, Told};
+use relay::{Head, Pair, Post, Told};
+use tracks::circuit::Circuit;
+use tracks::{Refusal, Track};
 
-// Whether two rows of these lengths may be the tracks of a circuit.
-fn alike(n: usize, m: usize, circuit: u32) -> bool
-    ensures { result ≡ (circuit_ok circuit && eqb n m) }
+// No two sections that face each other both have a signal under way: one pass over those of `own`, left at the first that has beside the other's.
+#[tactic(auto, using(tracks::proofs::Tested::clear_none, tracks::proofs::Tested::clear_more, tracks::proofs::Tested::stops))]
+pub fn are_apart(own: &[Post], other: &[Post]) -> bool
+    ensures { result ≡ apart own.now other.now (length own.now - 1) }
 {
-    let ok = tracks::circuit::circuit_ok(circuit);
-    ok & (n == m)
-}
-
-// Whether the two tracks may be used together: each row by itself, then on polarised current one pass over the sections, left at the first where both have a signal under way.
-pub fn desk_valid_tracks(first: &[Post], second: &[Post], circuit: u32, s: Head) -> bool
-    ensures { result ≡ valid_two circuit first.now second.now s }
-{
-    let n = first.len();
-    if !alike(n, second.len(), circuit) {
-        return false;
-    }
-    if !lent::desk_valid(first, s) {
-        return false;
-    }
-    if !lent::desk_valid(second, s) {
-        return false;
-    }
-    if circuit != tracks::POLARISED {
-        return true;
-    }
-    let mut i: usize = 0;
-    let mut j: usize = 1;
-    while j < n {
-        let k = tracks::circuit::facing_section(n, i);
-        if !tracks::circuit::is_clear(first[i].word, second[k].word) {
+    let n = own.len();
+    for i in 0..n.saturating_sub(1) {
+        let facing = other.get(tracks::circuit::facing_section(n, i));
+        if !tracks::circuit::is_clear(own[i].word, facing.map_or(0, |post| post.word)) {
             return false;
         }
-        i = j;
-        j += 1;
     }
     true
 }
 
+// What two tracks that may be used together ask beside the track's own line: on polarised current that the sections that face each other be apart.
+#[tactic(auto, unfolding(tracks::specs::Circuit::beside_ok))]
+pub fn beside_ok(own: &[Post], other: &[Post], circuit: u32, s: Head) -> bool
+    ensures { result ≡ beside_ok circuit own.now other.now s }
+{
+    let Some(kind) = Circuit::decode(circuit) else {
+        return false;
+    };
+    own.len() == other.len()
+        && lent::desk_valid(other, s)
+        && (kind == Circuit::Vibrated || are_apart(own, other))
+}
+
+// Whether the two tracks may be used together.
+#[tactic(auto, unfolding(tracks::specs::Circuit::valid_two, tracks::specs::Circuit::beside_ok))]
+pub fn desk_valid_tracks(first: &[Post], second: &[Post], circuit: u32, s: Head) -> bool
+    ensures { result ≡ valid_two circuit first.now second.now s }
+{
+    lent::desk_valid(first, s) && beside_ok(first, second, circuit, s)
+}
+
+// Alters the post or section `place` of the own row, and at most one neighbour of it, or says why the event is refused beside the other row; refused, the row is as it was.
+#[tactic(auto, unfolding(relay::specs::Line::answer_of, relay::specs::Line::event_of, relay::specs::Line::changed_line, tracks::specs::Circuit::answer_on, tracks::specs::Circuit::event_on, tracks::specs::Circuit::met, tracks::specs::Circuit::refusal_beside))]
+fn alter(
+    own: &mut [Post],
+    other: &[Post],
+    circuit: u32,
+    s: Head,
+    number: u32,
+    place: u32,
+    stamp: u32,
+) -> Result<(), Refusal>
+    ensures code { refusal_code result ≡ answer_on circuit own.old other.now s number place stamp }
+    ensures line { own.new ≡ (event_on circuit own.old other.now s number place stamp).line }
+{
+    if !desk_valid_tracks(own, other, circuit, s) {
+        return Err(Refusal::Relays(relay::Refusal::NotValid));
+    }
+    let n = own.len();
+    step::gate::gate_refusal(n, s, number, place, stamp)?;
+    let i = place as usize;
+    let j = step::gate::neighbour_of(number, place);
+    let facing = other[tracks::circuit::facing_of(n, number, place)].word;
+    let Pair { here, other } = tracks::circuit::attempt_beside(
+        own[i], own[j], facing, circuit, number,
+    )?;
+    own[i] = here;
+    own[j] = other;
+    Ok(())
+}
+
 // One event on a track beside the other: the post or section `place` of its own row, and at most one neighbour of it, altered in place; refused, the row is as it was.
-fn event_on(
+#[tactic(auto, unfolding(tracks::specs::Circuit::event_on, relay::specs::Line::event_of))]
+pub fn event_on(
     own: &mut [Post],
     other: &[Post],
     circuit: u32,
@@ -59,24 +92,25 @@ fn event_on(
 ) -> Told
     ensures { Gives (event_on circuit own.old other.now s number place stamp) result own.new }
 {
-    if !desk_valid_tracks(own, other, circuit, s) {
-        return step::gate::refuse(relay::NOT_VALID, s);
+    match alter(own, other, circuit, s, number, place, stamp) {
+        Ok(()) => step::gate::tell(relay::TAKEN, step::events::grow(s.taken), stamp),
+        Err(refusal) => step::gate::refuse(refusal.number(), s),
     }
-    let n = own.len();
-    let no = step::gate::gate_refusal(n, s, number, place, stamp);
-    if no != 0 {
-        return step::gate::refuse(no, s);
+}
+
+// The refusal of an event on a track that is neither.
+#[tactic(auto, unfolding(tracks::specs::Circuit::nowhere))]
+fn nowhere(first: &[Post], second: &[Post], circuit: u32, s: Head, number: u32) -> relay::Refusal
+    ensures { number_of_refusal result ≡ nowhere circuit first.now second.now s number }
+{
+    if !desk_valid_tracks(first, second, circuit, s) {
+        return relay::Refusal::NotValid;
     }
-    let i = place as usize;
-    let j = step::gate::neighbour_of(number, place);
-    let k = tracks::circuit::facing_of(n, number, place);
-    let out = tracks::circuit::work_on(own[i], own[j], other[k].word, circuit, s, number, stamp);
-    own[i] = out.here;
-    own[j] = out.other;
-    out.told
+    tracks::circuit::no_track(number)
 }
 
 // One event on either track, 0 for the first and 1 for the second; the other row stays, and refused, both do.
+#[tactic(auto, unfolding(tracks::specs::Circuit::event_two, tracks::specs::Circuit::event_on))]
 pub fn desk_event_tracks(
     first: &mut [Post],
     second: &mut [Post],
@@ -89,26 +123,21 @@ pub fn desk_event_tracks(
 ) -> Told
     ensures { GivesTwo (event_two circuit first.old second.old s track number place stamp) result first.new second.new }
 {
-    if track == tracks::TRACK_ONE {
-        return event_on(first, second, circuit, s, number, place, stamp);
+    match Track::decode(track) {
+        Some(Track::One) => event_on(first, second, circuit, s, number, place, stamp),
+        Some(Track::Two) => event_on(second, first, circuit, s, number, place, stamp),
+        None => step::gate::refuse(nowhere(first, second, circuit, s, number).number(), s),
     }
-    if track == tracks::TRACK_TWO {
-        return event_on(second, first, circuit, s, number, place, stamp);
-    }
-    if !desk_valid_tracks(first, second, circuit, s) {
-        return step::gate::refuse(relay::NOT_VALID, s);
-    }
-    step::gate::refuse(tracks::circuit::no_track(number), s)
 }
 
 // Whether rows of `n` and `m` posts may be started from the two tables.
 fn may_start_tracks(n: usize, m: usize, kinds: &[u32], others: &[u32], circuit: u32) -> bool
     ensures { result ≡ (circuit_ok circuit && ((eqb n (length kinds.now) && table_ok kinds.now) && ((eqb m (length others.now) && table_ok others.now) && eqb (length kinds.now) (length others.now)))) }
 {
-    let ok = tracks::circuit::circuit_ok(circuit);
-    let own = line::may_start(n, kinds);
-    let other = line::may_start(m, others);
-    ok & (own & (other & (kinds.len() == others.len())))
+    tracks::circuit::circuit_ok(circuit)
+        && line::may_start(n, kinds)
+        && line::may_start(m, others)
+        && kinds.len() == others.len()
 }
 
 // Two fresh lines from two tables of kinds; refused, both rows are as they were and the head is of zeros. All is tested before the first store.
@@ -123,7 +152,7 @@ pub fn desk_start_tracks(
     ensures { GivesTwo (start_two circuit first.old second.old kinds.now others.now stamp) result first.new second.new }
 {
     if !may_start_tracks(first.len(), second.len(), kinds, others, circuit) {
-        return step::gate::tell(relay::NOT_VALID, 0, 0);
+        return step::gate::tell(relay::Refusal::NotValid.number(), 0, 0);
     }
     lent::desk_start(first, kinds, stamp);
     lent::desk_start(second, others, stamp)

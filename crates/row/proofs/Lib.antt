@@ -1,5 +1,4 @@
-pub mod Part
+pub mod Lines
 pub mod Starts
-pub mod Acts
 pub mod Held
 pub mod Words

@@ -15,18 +15,8 @@ use Rattle.row.specs.declared.Stood.{Stood}
 use Rattle.tracks.specs.Circuit.{polarised, circuit_ok, apart, event_on, event_two}
 use Rattle.rows.specs.declared.StoodTwo.{StoodTwo}
 
--- what `valid_two` asks but that the track's own line may be used
-unfoldable pub beside_ok : ℕ → List Post → List Post → Head → Bool
-beside_ok c l k s =
-    circuit_ok c && (valid k s && (eqb (length l) (length k) && requires (eqb c polarised) (apart l k (length l - 1))))
-
 abbrev pub stood_two : Told → Row → Row → StoodTwo
 stood_two t a b = record { told = t; first = a; second = b }
-
--- an event on the track of the row `own` is the event on its line, beside the other's
-unfoldable pub event_beside : ℕ → Row → Row → Head → ℕ → ℕ → ℕ → Stood
-event_beside c own other s n i t =
-    stood (event_on c (line_of own) (line_of other) s n i t).told (line_to own (event_on c (line_of own) (line_of other) s n i t).line)
 
 -- an event on the two rows is the event on their lines
 unfoldable pub event_rows : ℕ → Row → Row → Head → ℕ → ℕ → ℕ → ℕ → StoodTwo

@@ -7,7 +7,7 @@ use Rattle.lent_rows.proofs.desk_start_tracks.Goals as goal
 pub returns-then-not-may_start_tracks : goal.returns-then-not-may_start_tracks
 returns-then-not-may_start_tracks c = let a = c.args in
     rw (refused a.circuit a.first.now a.second.now a.kinds.now a.others.now a.stamp (sym c.may_start_tracks.ensures ∙ c.if-not-may_start_tracks.true))
-    (c.tell.ensures, refl, refl)
+    (rw c.number.ensures.value at c.tell.ensures, refl, refl)
 
 pub returns : goal.returns
 returns c = let a = c.args in

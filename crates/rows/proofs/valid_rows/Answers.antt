@@ -1,14 +1,8 @@
--- `rows::valid_rows` meets its contract: the first line, and what it is used beside.
-use mathlib.Core.Path.{sym, ◌∙◌}
-use borrow.Author.Tests.{not-true, not-false}
-use Rattle.row.specs.Row.{line_of}
-use Rattle.rows.proofs.Beside.{two_parts}
+-- `valid_rows` meets its contract: the first records of each row, as many as its line has, are the line.
+use Rattle.std.proofs.Common.{arith}
+use Rattle.row.proofs.Lines.{line_first}
 use Rattle.rows.proofs.valid_rows.Goals as goal
-
-pub returns-then-not-valid_row : goal.returns-then-not-valid_row
-returns-then-not-valid_row c = let a = c.args in
-    rw (sym c.valid_row.ensures ∙ not-true _ c.if-not-valid_row.true-raw) at (two_parts a.circuit (line_of a.first) (line_of a.second) a.s)
 
 pub returns : goal.returns
 returns c = let a = c.args in
-    c.beside_ok.ensures ∙ rw (sym c.valid_row.ensures ∙ not-false _ c.if-not-valid_row.false-raw) at (two_parts a.circuit (line_of a.first) (line_of a.second) a.s)
+    rw (line_first a.first (omega arith) _ c.count.ensures.value, line_first a.second (omega arith) _ c.count-2.ensures.value) c.desk_valid_tracks.ensures

@@ -10,5 +10,5 @@ pub returns : goal.returns
 unfolding event_on
 returns c = let a = c.args in
     let lp : length a.posts ≡ 33 = omega arith in
-    rw (c.desk_event-told.ensures.0, c.desk_event-told.ensures.1, c.at_most-m.ensures)
+    rw (c.desk_event-told.ensures.0, c.desk_event-told.ensures.1, c.at_most.ensures)
     (kept_at a.posts lp a.n (λ (l : List Post). event_of l a.s a.number a.place a.stamp))

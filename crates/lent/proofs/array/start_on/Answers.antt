@@ -10,5 +10,5 @@ pub returns : goal.returns
 unfolding start_on
 returns c = let a = c.args in
     let lp : length a.posts ≡ 33 = omega arith in
-    rw (c.desk_start-told.ensures.0, c.desk_start-told.ensures.1, c.at_most-m.ensures)
+    rw (c.desk_start-told.ensures.0, c.desk_start-told.ensures.1, c.at_most.ensures)
     (kept_at a.posts lp a.n (λ (l : List Post). start_of l a.kinds.now a.stamp))
