@@ -1,29 +1,31 @@
 // The blocks of a sheet, up to the first bad one.
-ghost use Rattle.std.specs.Prelude.{◌≡◌, ◌+◌, ◌*◌, ◌<◌, ◌≤◌, false, length};
+#![tactic(auto, unfolding(sheet::specs::Reading::length_ok, sheet::specs::Reading::form_ok, sheet::specs::Reading::events_fit, sheet::specs::Reading::table_fits, sheet::specs::Reading::verdict_up_to, sheet::specs::Shape::head_shape, sheet::specs::Shape::shape_of), using(relay::proofs::Tests::tests))]
+
+ghost use Rattle.std.specs.Prelude.{◌≡◌, ◌+◌, ◌*◌, ◌<◌, ◌≤◌, length};
 ghost use Rattle.relay.specs.Kinds.{table_ok};
 ghost use Rattle.sheet.specs.Check.{word};
-ghost use Rattle.sheet.specs.Reading.{length_ok, kinds_at, table_in, table_fits, form_ok, events_fit, verdict_at, first_bad, verdict_up_to};
-ghost use Rattle.sheet.specs.Shape.{shape, head_shape, shape_of};
+ghost use Rattle.sheet.specs.Reading.{length_ok, kinds_at, table_in, table_fits, form_ok, events_fit, first_bad, verdict_up_to};
+ghost use Rattle.sheet.specs.Refusals.{verdict_code};
+ghost use Rattle.sheet.specs.Shape.{head_shape, shape_of};
 ghost use Rattle.sheet.specs.Layout.{block_bytes, most_blocks};
 
 use crate::{entry, words};
 use sheet::layout::{
-    BLOCK_BYTES, CHECK_AT, CHECK_WRONG, CONTENTS_WRONG, LAST_CIRCUIT, LENGTH_WRONG, MOST_BYTES,
-    ONE_TRACK, PER_BLOCK, TWO_TRACKS, UPPER_BITS,
+    BLOCK_BYTES, CHECK_AT, LAST_CIRCUIT, MOST_BYTES, ONE_TRACK, PER_BLOCK, TWO_TRACKS,
 };
-use sheet::{Shape, Unpacked, Verdict};
+use sheet::{Refusal, Shape};
 
 pub fn length_ok(n: usize) -> bool
     ensures { result ≡ length_ok n }
 {
-    (n % BLOCK_BYTES == 0) & ((BLOCK_BYTES <= n) & (n <= MOST_BYTES))
+    n % BLOCK_BYTES == 0 && (BLOCK_BYTES..=MOST_BYTES).contains(&n)
 }
 
 // Whether a sheet that may be of `most` tracks may be of so many.
 pub fn form_ok(most: u32, tracks: u32) -> bool
     ensures { result ≡ form_ok most tracks }
 {
-    (ONE_TRACK <= tracks) & (tracks <= most)
+    (ONE_TRACK..=most).contains(&tracks)
 }
 
 // Whether starting would accept N and the kinds that stand from word `at` of block 0 on.
@@ -35,12 +37,10 @@ pub fn kinds_at(s: &[u8], at: usize) -> bool
     if !line::kinds::count_fits(n) {
         return false;
     }
-    let mut i: usize = 0;
-    while i < n {
+    for i in 0..n {
         if !line::kinds::kind_fits(n, i, words::get_word(s, (at + i) * 4)) {
             return false;
         }
-        i += 1;
     }
     true
 }
@@ -57,44 +57,26 @@ pub fn table_in(s: &[u8], tracks: u32) -> bool
         return true;
     }
     let n = words::get_word(s, 4) as usize;
-    if !kinds_at(s, 3 + n) {
-        return false;
-    }
-    words::get_word(s, (3 + n * 2) * 4) <= LAST_CIRCUIT
+    kinds_at(s, 3 + n) && words::get_word(s, (3 + n * 2) * 4) <= LAST_CIRCUIT
 }
 
-// The shape of block 0 of a sheet that may be of `most` tracks.
-fn head_shape(s: &[u8], most: u32) -> Shape
+// The shape of block 0 of a sheet that may be of `most` tracks; none where it departs from the layout.
+fn head_shape(s: &[u8], most: u32) -> Option<Shape>
     requires { block_bytes ≤ length s.now }
     ensures { result ≡ head_shape most s.now }
 {
     let tracks = words::get_word(s, 0);
-    if !form_ok(most, tracks) {
-        return wrong_shape();
+    if !(form_ok(most, tracks) && table_in(s, tracks)) {
+        return None;
     }
-    if !table_in(s, tracks) {
-        return wrong_shape();
-    }
-    Shape {
-        ok: true,
+    Some(Shape {
         events: 0,
         used: 3 + crate::table_words(tracks, words::get_word(s, 4)),
-    }
+    })
 }
 
-// The shape of a block that departs from the layout.
-fn wrong_shape() -> Shape
-    ensures { result ≡ shape false 0 0 }
-{
-    Shape {
-        ok: false,
-        events: 0,
-        used: 0,
-    }
-}
-
-// The shape of block `b` of `n`, of a sheet that may be of `most` tracks.
-pub fn shape_of(s: &[u8], n: u32, b: u32, most: u32) -> Shape
+// The shape of block `b` of `n`, of a sheet that may be of `most` tracks; none where it departs from the layout.
+pub fn shape_of(s: &[u8], n: u32, b: u32, most: u32) -> Option<Shape>
     requires { (b < n) × (n ≤ most_blocks) × (n * block_bytes ≤ length s.now) }
     ensures { result ≡ shape_of most s.now n b }
 {
@@ -103,78 +85,60 @@ pub fn shape_of(s: &[u8], n: u32, b: u32, most: u32) -> Shape
     }
     let m = words::get_word(s, b as usize * BLOCK_BYTES) as usize;
     if !events_fit(m, b + 1 == n) {
-        return wrong_shape();
+        return None;
     }
-    Shape {
-        ok: true,
+    Some(Shape {
         events: m,
         used: 1 + m * 2,
-    }
+    })
 }
 
 // 1 to 60 events, and 60 in all but the last block.
 pub fn events_fit(m: usize, last: bool) -> bool
     ensures { result ≡ events_fit m last }
 {
-    (1 <= m) & (m <= PER_BLOCK) & (last | (m == PER_BLOCK))
+    (1..=PER_BLOCK).contains(&m) && (last || m == PER_BLOCK)
 }
 
-// A refusal, its block and the event's position in it; or zeros.
-pub fn verdict(number: u32, block: u32, position: u32) -> Verdict
-    ensures { result ≡ verdict_at number block position }
-{
-    Verdict {
-        number: number,
-        block: block,
-        position: position,
-    }
-}
-
-// The refusal of a sheet that may be of `most` tracks: its length first, then its blocks; or zeros.
-pub fn test_up_to(s: &[u8], most: u32) -> Verdict
-    ensures { result ≡ verdict_up_to most s.now }
+// Tests a sheet that may be of `most` tracks: its length first, then its blocks.
+pub fn test_up_to(s: &[u8], most: u32) -> Result<(), Refusal>
+    ensures { verdict_code result ≡ verdict_up_to most s.now }
 {
     let n = s.len();
     if !length_ok(n) {
-        return verdict(LENGTH_WRONG, 0, 0);
+        return Err(Refusal::Length);
     }
     first_bad(s, (n / BLOCK_BYTES) as u32, most)
 }
 
-// The first bad block of the `n` blocks of a sheet that may be of `most` tracks, with 19, 20 or 24; check before contents. 0 and 0 where all are good.
-pub fn first_bad(s: &[u8], n: u32, most: u32) -> Verdict
+// Refuses the first bad block of the `n` blocks of a sheet that may be of `most` tracks; check before contents.
+pub fn first_bad(s: &[u8], n: u32, most: u32) -> Result<(), Refusal>
     requires { (n ≤ most_blocks) × (n * block_bytes ≤ length s.now) }
-    ensures { result ≡ first_bad most s.now n 0 n }
+    ensures { verdict_code result ≡ first_bad most s.now n 0 n }
 {
     let mut b: u32 = 0;
+    // The blocks are left by their label, wherever in one the fault is.
     'blocks: loop {
         if n <= b {
-            break 'blocks verdict(0, 0, 0);
+            break 'blocks Ok(());
         }
         let at = b as usize * BLOCK_BYTES;
         if !words::checks_as(s, b as usize, b) {
-            break 'blocks verdict(CHECK_WRONG, b, 0);
+            break 'blocks Err(Refusal::Check(b));
         }
-        let shape = shape_of(s, n, b, most);
-        if !shape.ok {
-            break 'blocks verdict(CONTENTS_WRONG, b, 0);
-        }
-        let events = shape.events;
+        let Some(shape) = shape_of(s, n, b, most) else {
+            break 'blocks Err(Refusal::Contents(b));
+        };
         let tracks = words::get_word(s, 0);
-        let mut j: usize = 0;
-        while j < events {
-            let w = words::get_word(s, at + (1 + j * 2) * 4);
-            let Unpacked::Fields(_, _, _, _) = entry::unpack(w, tracks) else {
-                break 'blocks verdict(UPPER_BITS, b, j as u32);
-            };
-            j += 1;
-        }
-        let mut k = shape.used;
-        while k < CHECK_AT {
-            if words::get_word(s, at + k * 4) != 0 {
-                break 'blocks verdict(CONTENTS_WRONG, b, 0);
+        for j in 0..shape.events {
+            if !entry::upper_zero(words::get_word(s, at + (1 + j * 2) * 4), tracks) {
+                break 'blocks Err(Refusal::UpperBits(b, j as u32));
             }
-            k += 1;
+        }
+        for k in shape.used..CHECK_AT {
+            if words::get_word(s, at + k * 4) != 0 {
+                break 'blocks Err(Refusal::Contents(b));
+            }
         }
         b += 1;
     }

@@ -1,103 +1,63 @@
 // The event sheet in lent bytes: tested, read into lent room, and written.
 
-#![tactic(auto)]
+#![tactic(auto, unfolding(sheet::specs::Check::checks_alone, sheet::specs::Sheet::table_words), using(relay::proofs::Tests::tests))]
 
-ghost use Rattle.std.specs.Prelude.{◌≡◌};
+ghost use Rattle.std.specs.Prelude.{◌≡◌, IfOk};
 ghost use Rattle.sheet.specs.Sheet.{table_words};
 ghost use Rattle.sheet.specs.Layout.{two_tracks};
 ghost use Rattle.sheet.specs.Writing.{Writes, WritesTracked};
 ghost use Rattle.sheet.specs.Check.{checks_alone};
-ghost use Rattle.sheet.specs.Reading.{verdict_of, verdict_up_to, refused, refused_tracks, verdict_at, Reads, ReadsTracks};
+ghost use Rattle.sheet.specs.Reading.{verdict, verdict_of, verdict_up_to, Reads, ReadsTracks};
+ghost use Rattle.sheet.specs.Refusals.{verdict_code, refusal_code, header_in, found_of, found_tracks_of};
 
 mod blocks;
 mod entry;
-mod give;
+mod good;
 mod put;
 mod words;
 
-use sheet::layout::{BLOCK_BYTES, CONTENTS_WRONG, ONE_TRACK, ROOM_SHORT, TWO_TRACKS};
-use sheet::{Found, FoundTracks, Verdict};
+use good::Good;
+use put::Draft;
+use sheet::layout::{BLOCK_BYTES, ONE_TRACK, TWO_TRACKS};
+use sheet::{Header, Refusal};
+
+// Events and tracks that are to be written stand in no block yet.
+const NO_BLOCK: u32 = 0;
 
 // Whether one block by itself checks, as block `number` of a sheet. Any length but that of a block does not.
 pub fn check(s: &[u8], number: u32) -> bool
     ensures { result ≡ checks_alone s.now number }
 {
-    if s.len() != BLOCK_BYTES {
-        return false;
-    }
-    words::checks_as(s, 0, number)
+    s.len() == BLOCK_BYTES && words::checks_as(s, 0, number)
 }
 
-// Tests a sheet: zeros, or the refusal with the first bad block and the event's position in it.
-pub fn test(s: &[u8]) -> Verdict
-    ensures { result ≡ verdict_of s.now }
+// Tests a sheet: refuses the first bad block, with the position in it of an event whose upper bits are not zero.
+pub fn test(s: &[u8]) -> Result<(), Refusal>
+    ensures { verdict_code result ≡ verdict_of s.now }
 {
     blocks::test_up_to(s, ONE_TRACK)
 }
 
 // Tests a sheet of one track or of two.
-pub fn test_tracks(s: &[u8]) -> Verdict
-    ensures { result ≡ verdict_up_to two_tracks s.now }
+pub fn test_tracks(s: &[u8]) -> Result<(), Refusal>
+    ensures { verdict_code result ≡ verdict_up_to two_tracks s.now }
 {
     blocks::test_up_to(s, TWO_TRACKS)
 }
 
-// What a refusal of reading returns.
-pub fn refuse(number: u32, block: u32, position: u32) -> Found
-    ensures { result ≡ refused (verdict_at number block position) }
-{
-    Found {
-        number: number,
-        block: block,
-        position: position,
-        posts: 0,
-        stamp: 0,
-        events: 0,
-    }
-}
-
 // Reads a sheet: its kinds to the front of `kinds` and its events, each as number, post, answer and stamp, to the front of `events`. A refusal leaves both as they were.
-pub fn read(s: &[u8], kinds: &mut [u32], events: &mut [[u32; 4]]) -> Found
-    ensures { Reads s.now result kinds.old kinds.new events.old events.new }
+pub fn read(s: &[u8], kinds: &mut [u32], events: &mut [[u32; 4]]) -> Result<Header, Refusal>
+    ensures reads { Reads s.now (found_of result) kinds.old kinds.new events.old events.new }
+    ensures header { IfOk result (λ header. header ≡ header_in s.now) }
 {
-    let v = test(s);
-    let number = v.number;
-    if number != 0 {
-        return refuse(number, v.block, v.position);
+    let sheet = Good::test(s, ONE_TRACK)?;
+    // The tracks of its events, all the same, are not handed out.
+    if !sheet.fits(kinds.len(), events.len(), events.len()) {
+        return Err(Refusal::RoomShort);
     }
-    let n = words::get_word(s, 4) as usize;
-    let m = give::entries_in(s);
-    if kinds.len() < n {
-        return refuse(ROOM_SHORT, 0, 0);
-    }
-    if events.len() < m {
-        return refuse(ROOM_SHORT, 0, 0);
-    }
-    give::table(s, n, kinds);
-    give::events(s, m, events);
-    Found {
-        number: 0,
-        block: 0,
-        position: 0,
-        posts: n as u32,
-        stamp: words::get_word(s, 8),
-        events: m as u32,
-    }
-}
-
-// What a refusal of reading a sheet of either form returns.
-pub fn refuse_tracks(number: u32, block: u32, position: u32) -> FoundTracks
-    ensures { result ≡ refused_tracks (verdict_at number block position) }
-{
-    FoundTracks {
-        number: number,
-        block: block,
-        position: position,
-        tracks: 0,
-        posts: 0,
-        stamp: 0,
-        events: 0,
-    }
+    sheet.table(kinds);
+    sheet.events(events);
+    Ok(sheet.header())
 }
 
 // Reads a sheet of one track or of two: its table to the front of `table` (the kinds; of two tracks those of track 1, those of track 2 and the circuit), its events as `read` does, and the track of each to the front of `on`. A refusal leaves all three as they were.
@@ -106,33 +66,17 @@ pub fn read_tracks(
     table: &mut [u32],
     events: &mut [[u32; 4]],
     on: &mut [u32],
-) -> FoundTracks
-    ensures { ReadsTracks s.now result table.old table.new events.old events.new on.old on.new }
+) -> Result<Header, Refusal>
+    ensures { ReadsTracks s.now (found_tracks_of result) table.old table.new events.old events.new on.old on.new }
 {
-    let v = test_tracks(s);
-    let number = v.number;
-    if number != 0 {
-        return refuse_tracks(number, v.block, v.position);
+    let sheet = Good::test(s, TWO_TRACKS)?;
+    if !sheet.fits(table.len(), events.len(), on.len()) {
+        return Err(Refusal::RoomShort);
     }
-    let tracks = words::get_word(s, 0);
-    let n = words::get_word(s, 4);
-    let k = table_words(tracks, n);
-    let m = give::entries_in(s);
-    if !give::fits(k, m, table.len(), events.len(), on.len()) {
-        return refuse_tracks(ROOM_SHORT, 0, 0);
-    }
-    give::table(s, k, table);
-    give::events(s, m, events);
-    give::tracks(s, m, on);
-    FoundTracks {
-        number: 0,
-        block: 0,
-        position: 0,
-        tracks: tracks,
-        posts: n,
-        stamp: words::get_word(s, 8),
-        events: m as u32,
-    }
+    sheet.table(table);
+    sheet.events(events);
+    sheet.tracks(on);
+    Ok(sheet.header())
 }
 
 // How many words the table of so many posts has, in a sheet of so many tracks.
@@ -143,21 +87,28 @@ pub fn table_words(tracks: u32, posts: u32) -> usize
     if tracks == TWO_TRACKS { n * 2 + 1 } else { n }
 }
 
-// Writes a sheet to the front of `out`: 0, or the number of the refusal, and then `out` is as it was.
-pub fn write(kinds: &[u32], stamp: u32, events: &[[u32; 4]], out: &mut [u8]) -> u32
-    ensures { Writes (record { stamp = stamp; kinds = kinds.now; events = events.now }) result out.old out.new }
+// Writes a sheet to the front of `out`. A refusal leaves `out` as it was.
+pub fn write(kinds: &[u32], stamp: u32, events: &[[u32; 4]], out: &mut [u8]) -> Result<(), Refusal>
+    ensures written { Writes (record { stamp = stamp; kinds = kinds.now; events = events.now }) (refusal_code result) out.old out.new }
+    ensures place { verdict_code result ≡ verdict (refusal_code result) 0 }
 {
     if !line::may_start(kinds.len(), kinds) {
-        return relay::NOT_VALID;
+        return Err(Refusal::NotValid);
     }
     if !put::all_in_fields(events) {
-        return CONTENTS_WRONG;
+        return Err(Refusal::Contents(NO_BLOCK));
     }
-    let none = [0u32; 1];
-    put::whole(ONE_TRACK, kinds, stamp, events, &none[..0], out)
+    let draft = Draft {
+        tracks: ONE_TRACK,
+        table: kinds,
+        stamp,
+        events,
+        on: &[],
+    };
+    draft.write(out)
 }
 
-// Writes a sheet of one track or of two to the front of `out`, by how many tracks it is of, its table as `read_tracks` hands it out, and the track of each event: 0, or the number of the refusal, and then `out` is as it was.
+// Writes a sheet of one track or of two to the front of `out`, by how many tracks it is of, its table as `read_tracks` hands it out, and the track of each event. A refusal leaves `out` as it was.
 pub fn write_tracks(
     tracks: u32,
     table: &[u32],
@@ -165,17 +116,25 @@ pub fn write_tracks(
     events: &[[u32; 4]],
     on: &[u32],
     out: &mut [u8],
-) -> u32
-    ensures { WritesTracked (record { form = tracks; stamp = stamp; table = table.now; events = events.now; tracks = on.now }) result out.old out.new }
+) -> Result<(), Refusal>
+    ensures written { WritesTracked (record { form = tracks; stamp = stamp; table = table.now; events = events.now; tracks = on.now }) (refusal_code result) out.old out.new }
+    ensures place { verdict_code result ≡ verdict (refusal_code result) 0 }
 {
     if !put::may_start(tracks, table) {
-        return relay::NOT_VALID;
+        return Err(Refusal::NotValid);
     }
     if !put::all_in_fields(events) {
-        return CONTENTS_WRONG;
+        return Err(Refusal::Contents(NO_BLOCK));
     }
     if !put::tracks_fit(tracks, events.len(), on) {
-        return CONTENTS_WRONG;
+        return Err(Refusal::Contents(NO_BLOCK));
     }
-    put::whole(tracks, table, stamp, events, on, out)
+    let draft = Draft {
+        tracks,
+        table,
+        stamp,
+        events,
+        on,
+    };
+    draft.write(out)
 }

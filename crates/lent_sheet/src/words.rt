@@ -1,24 +1,19 @@
 // Little-endian 32-bit words in lent bytes, and the check of a block of 128 of them.
+#![tactic(auto, unfolding(sheet::specs::Words::word_at, sheet::specs::Words::put_word, sheet::specs::Check::checks_as))]
+
 ghost use Rattle.std.specs.Prelude.{◌≡◌, ◌+◌, ◌*◌, ◌%◌, ◌^◌, ◌<◌, ◌≤◌, length};
-ghost use Rattle.sheet.specs.Words.{le32, word_at, put_word};
+ghost use Rattle.sheet.specs.Words.{word_at, put_word};
 ghost use Rattle.sheet.specs.Check.{sum, word, checks_as};
 ghost use Rattle.sheet.specs.Layout.{block_bytes, block_words, most_blocks};
 
 use sheet::layout::{BLOCK_BYTES, BLOCK_WORDS, CHECK_BASE};
-
-// The word of four bytes, the lowest first.
-pub fn word_of(a: u8, b: u8, c: u8, d: u8) -> u32
-    ensures { result ≡ le32 a b c d }
-{
-    a as u32 + b as u32 * 256 + c as u32 * 65536 + d as u32 * 16777216
-}
 
 // The word at the byte offset `at`.
 pub fn get_word(s: &[u8], at: usize) -> u32
     requires { at + 4 ≤ length s.now }
     ensures { result ≡ word_at s.now at }
 {
-    word_of(s[at], s[at + 1], s[at + 2], s[at + 3])
+    u32::from_le_bytes([s[at], s[at + 1], s[at + 2], s[at + 3]])
 }
 
 // Stores the word `w` at the byte offset `at`.
@@ -26,10 +21,11 @@ pub fn put_word(s: &mut [u8], at: usize, w: u32)
     requires { at + 4 ≤ length s.old }
     ensures { s.new ≡ put_word s.old at w }
 {
-    s[at] = (w % 256) as u8;
-    s[at + 1] = (w / 256 % 256) as u8;
-    s[at + 2] = (w / 65536 % 256) as u8;
-    s[at + 3] = (w / 16777216 % 256) as u8;
+    let bytes = w.to_le_bytes();
+    s[at] = bytes[0];
+    s[at + 1] = bytes[1];
+    s[at + 2] = bytes[2];
+    s[at + 3] = bytes[3];
 }
 
 // The sum of the first `n` words of block `b`, carried round at 2^32.
@@ -39,10 +35,8 @@ pub fn sum_words(s: &[u8], b: usize, n: usize) -> u32
 {
     let at = b * BLOCK_BYTES;
     let mut total: u32 = 0;
-    let mut k: usize = 0;
-    while k < n {
+    for k in 0..n {
         total = std::num::wrapping_add_u32(total, get_word(s, at + k * 4));
-        k += 1;
     }
     total
 }

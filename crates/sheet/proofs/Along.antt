@@ -7,6 +7,7 @@ use mathlib.Core.Bool.{Bool, true, false, ◌&&◌, false≢true}
 use mathlib.Core.List.{List, [], ◌∷◌}
 use lib.ListN.{length, drop, get_or, drop_of_length-le}
 use lib.Seq.{drop-cons}
+use Rattle.std.specs.List.{list_all}
 use native.Mathlib.Numerals.{add-one}
 use native.Mathlib.Omega.{arith}
 
@@ -45,3 +46,8 @@ module _ {X : Type 0} {p : X → Bool} {q : List X → Bool} (t : Tests p q) (z 
   pub every : (es : List X) → ((i : ℕ) → i < length es → p (get_or es i z) ≡ true) → q es ≡ true
   every [] h = t.none
   every (e ∷ es) h = t.more e es ∙ rw (h 0 (omega arith), every es (λ i l. h (suc i) (omega arith)))
+
+  -- std's test of every element is the same
+  pub along_list : (es : List X) → list_all p es ≡ q es
+  along_list [] = sym t.none
+  along_list (e ∷ es) = ap (λ (b : Bool). p e && b) (along_list es) ∙ sym (t.more e es)

@@ -4,6 +4,7 @@ use Prim.Native.Nat.{ℕ, suc, ◌+◌, ◌-◌, ◌*◌, ◌≤◌, ◌<◌}
 use mathlib.Core.Path.{◌≡◌, refl}
 use mathlib.Core.Bool.{Bool, true, false, not, ◌&&◌, ◌||◌, false≢true}
 use mathlib.Core.List.{List}
+use Rattle.std.proofs.Common.{Option, Some, None}
 use native.Mathlib.Omega.{arith}
 use borrow.Author.Tests.{eq-eqb, ne_eqb, eqb-true, leb-true}
 use lib.Dec.{eqb, leb}
@@ -28,11 +29,11 @@ abbrev head_used : List ℕ → ℕ
 head_used s = 3 + table_words (form_in s) (word s 0 1)
 
 module _ (most : ℕ) (s : List ℕ) where
-  pub head-bad : head_fits most s ≡ false → head_shape most s ≡ shape false 0 0
+  pub head-bad : head_fits most s ≡ false → head_shape most s ≡ None
   unfolding head_shape
   head-bad h = rw h
 
-  pub head-good : head_fits most s ≡ true → head_shape most s ≡ shape true 0 (head_used s)
+  pub head-good : head_fits most s ≡ true → head_shape most s ≡ shape 0 (head_used s)
   unfolding head_shape
   head-good h = rw h
 
@@ -43,26 +44,27 @@ module _ (most : ℕ) (s : List ℕ) (n b : ℕ) where
   head-shape e = rw (eq-eqb b 0 e)
 
   module _ (e : b ≡ 0 → ⊥) where
-    pub events-bad : events_fit (word s b 0) (eqb (b + 1) n) ≡ false → shape_of most s n b ≡ shape false 0 0
+    pub events-bad : events_fit (word s b 0) (eqb (b + 1) n) ≡ false → shape_of most s n b ≡ None
     unfolding shape_of
     events-bad h = rw (ne_eqb b 0 e, h)
 
-    pub events-good : events_fit (word s b 0) (eqb (b + 1) n) ≡ true → shape_of most s n b ≡ shape true (word s b 0) (1 + word s b 0 * 2)
+    pub events-good : events_fit (word s b 0) (eqb (b + 1) n) ≡ true → shape_of most s n b ≡ shape (word s b 0) (1 + word s b 0 * 2)
     unfolding shape_of
     events-good h = rw (ne_eqb b 0 e, h)
 
 -- what a shape asks of the words of block b
-abbrev pub fills : List ℕ → ℕ → Shape → Bool
-fills s b f = f.ok && (entries_ok s b f.events && zeros s b f.used (check_at - f.used))
+abbrev pub fills : List ℕ → ℕ → Option Shape → Bool
+fills s b None = false
+fills s b (Some f) = entries_ok s b f.events && zeros s b f.used (check_at - f.used)
 
 head-fills : (most : ℕ) (s : List ℕ) (t : Bool) → head_fits most s ≡ t
-    → head_ok most s ≡ fills s 0 (pick t (shape true 0 (head_used s)) (shape false 0 0))
+    → head_ok most s ≡ fills s 0 (pick t (shape 0 (head_used s)) None)
 unfolding head_ok first_upper
 head-fills most s true e = rw e
 head-fills most s false e = rw e
 
 events-fills : (s : List ℕ) (b : ℕ) (last t : Bool) → events_fit (word s b 0) last ≡ t
-    → events_ok s b last ≡ fills s b (pick t (shape true (word s b 0) (1 + word s b 0 * 2)) (shape false 0 0))
+    → events_ok s b last ≡ fills s b (pick t (shape (word s b 0) (1 + word s b 0 * 2)) None)
 unfolding events_ok
 events-fills s b last true e = rw e
 events-fills s b last false e = rw e
@@ -77,17 +79,18 @@ pub contents_fills : (most : ℕ) (s : List ℕ) (n b : ℕ) → contents_ok mos
 contents_fills most s n b = contents_by most s n b (eqb b 0) refl
 
 -- what is said where they are not so: the event whose word has upper bits, in a block of the right shape
-abbrev pub fault_in : List ℕ → ℕ → Shape → Verdict
-fault_in s b f = pick (f.ok && not (entries_ok s b f.events)) (verdict_at upper_bits b (first_upper s b 0 f.events)) (verdict contents_wrong b)
+abbrev pub fault_in : List ℕ → ℕ → Option Shape → Verdict
+fault_in s b None = verdict contents_wrong b
+fault_in s b (Some f) = pick (not (entries_ok s b f.events)) (verdict_at upper_bits b (first_upper s b 0 f.events)) (verdict contents_wrong b)
 
 -- of block 0, whose shape has no events, and of a later one
-head-fault : (s : List ℕ) (b k : ℕ) (t : Bool) → verdict contents_wrong b ≡ fault_in s b (pick t (shape true 0 k) (shape false 0 0))
+head-fault : (s : List ℕ) (b k : ℕ) (t : Bool) → verdict contents_wrong b ≡ fault_in s b (pick t (shape 0 k) None)
 unfolding first_upper
 head-fault s b k true = refl
 head-fault s b k false = refl
 
 events-fault : (s : List ℕ) (b m k : ℕ) (t : Bool)
-    → pick (not t) (verdict contents_wrong b) (pick (not (entries_ok s b m)) (verdict_at upper_bits b (first_upper s b 0 m)) (verdict contents_wrong b)) ≡ fault_in s b (pick t (shape true m k) (shape false 0 0))
+    → pick (not t) (verdict contents_wrong b) (pick (not (entries_ok s b m)) (verdict_at upper_bits b (first_upper s b 0 m)) (verdict contents_wrong b)) ≡ fault_in s b (pick t (shape m k) None)
 events-fault s b m k true = refl
 events-fault s b m k false = refl
 
@@ -100,19 +103,18 @@ pub fault-fills : (most : ℕ) (s : List ℕ) (n b : ℕ) → contents_fault s n
 fault-fills most s n b = fault_by most s n b (eqb b 0) refl
 
 -- contents that are wrong, and what is said of them
-abbrev pub Faulty : List ℕ → ℕ → Shape → Verdict → Type 0
+abbrev pub Faulty : List ℕ → ℕ → Option Shape → Verdict → Type 0
 Faulty s b f v = (fills s b f ≡ false) × (fault_in s b f ≡ v)
 
+pub wrong-shape : (s : List ℕ) (b : ℕ) → Faulty s b None (verdict contents_wrong b)
+wrong-shape s b = (refl, refl)
+
 module _ (s : List ℕ) (b : ℕ) (f : Shape) where
-  pub wrong-shape : f.ok ≡ false → Faulty s b f (verdict contents_wrong b)
-  wrong-shape o = rw o (refl, refl)
+  pub wrong-entry : (j : ℕ) → first_upper s b 0 f.events ≡ j → j < f.events → Faulty s b (Some f) (verdict_at upper_bits b j)
+  wrong-entry j e h = rw (e, ne_eqb j f.events (λ q. omega arith)) (refl, refl)
 
-  module _ (o : f.ok ≡ true) where
-    pub wrong-entry : (j : ℕ) → first_upper s b 0 f.events ≡ j → j < f.events → Faulty s b f (verdict_at upper_bits b j)
-    wrong-entry j e h = rw (o, e, ne_eqb j f.events (λ q. omega arith)) (refl, refl)
-
-    pub wrong-zero : entries_ok s b f.events ≡ true → zeros s b f.used (check_at - f.used) ≡ false → Faulty s b f (verdict contents_wrong b)
-    wrong-zero e z = rw (o, e, z) (refl, refl)
+  pub wrong-zero : entries_ok s b f.events ≡ true → zeros s b f.used (check_at - f.used) ≡ false → Faulty s b (Some f) (verdict contents_wrong b)
+  wrong-zero e z = rw (e, z) (refl, refl)
 
 -- ---- a shape that is right stays within the block
 both : (a b : Bool) → (a && b) ≡ true → (a ≡ true) × (b ≡ true)
@@ -124,19 +126,22 @@ pub record Inside (f : Shape) : Type 0 where
   pub events : f.events ≤ 60
   pub words : f.used ≤ 127
 
-inside_by : (t : Bool) (m k : ℕ) → (t ≡ true → (m ≤ 60) × (k ≤ 127)) → (pick t (shape true m k) (shape false 0 0)).ok ≡ true → Inside (pick t (shape true m k) (shape false 0 0))
-inside_by true m k h e = record { events = (h refl).0; words = (h refl).1 }
-inside_by false m k h e = absurd (false≢true e)
+inside_by : (t : Bool) (m k : ℕ) (f : Shape) → (t ≡ true → (m ≤ 60) × (k ≤ 127)) → pick t (shape m k) None ≡ Some f → Inside f
+inside_by true m k f h e =
+    let events : m ≡ f.events = cc in
+    let words : k ≡ f.used = cc in
+    record { events = omega (arith, (h refl).0); words = omega (arith, (h refl).1) }
+inside_by false m k f h e = cc
 
-shape_by : (most : ℕ) (s : List ℕ) (n b : ℕ) (t : Bool) → eqb b 0 ≡ t → (shape_of most s n b).ok ≡ true → Inside (shape_of most s n b)
+shape_by : (most : ℕ) (s : List ℕ) (n b : ℕ) (t : Bool) (f : Shape) → eqb b 0 ≡ t → shape_of most s n b ≡ Some f → Inside f
 unfolding shape_of head_shape events_fit
-shape_by most s n b true e h = rw e (inside_by _ 0 (head_used s) (λ q.
-    let f = words-few s (fits-few s (both (form_ok most (form_in s)) (table_fits (form_in s) (table_in s)) q).1) in (omega arith, omega arith)) (rw e at h))
-shape_by most s n b false e h = rw e (inside_by _ (word s b 0) (1 + word s b 0 * 2) (λ q.
-    let f = leb-true (word s b 0) per_block (both (leb 1 (word s b 0)) (leb (word s b 0) per_block) (both _ (eqb (b + 1) n || eqb (word s b 0) per_block) q).0).1 in (omega arith, omega arith)) (rw e at h))
+shape_by most s n b true f e h = inside_by _ 0 (head_used s) f (λ q.
+    let f = words-few s (fits-few s (both (form_ok most (form_in s)) (table_fits (form_in s) (table_in s)) q).1) in (omega arith, omega arith)) (rw e at h)
+shape_by most s n b false f e h = inside_by _ (word s b 0) (1 + word s b 0 * 2) f (λ q.
+    let f = leb-true (word s b 0) per_block (both (leb 1 (word s b 0)) (leb (word s b 0) per_block) (both _ (eqb (b + 1) n || eqb (word s b 0) per_block) q).0).1 in (omega arith, omega arith)) (rw e at h)
 
-pub shape-inside : (most : ℕ) (s : List ℕ) (n b : ℕ) → (shape_of most s n b).ok ≡ true → Inside (shape_of most s n b)
-shape-inside most s n b h = shape_by most s n b (eqb b 0) refl h
+pub shape-inside : (most : ℕ) (s : List ℕ) (n b : ℕ) (f : Shape) → shape_of most s n b ≡ Some f → Inside f
+shape-inside most s n b f h = shape_by most s n b (eqb b 0) f refl h
 
 -- ---- a turn of the loop over events, and its end
 left : (j n : ℕ) → j < n → n - j ≡ suc (n - (j + 1))

@@ -16,7 +16,7 @@ use Rattle.sheet.proofs.Along as along
 use Rattle.sheet.proofs.Along.{Tests, both}
 
 -- the test of every event, and of every number below m
-fields_test : Tests in_fields all_in_fields
+pub fields_test : Tests in_fields all_in_fields
 unfolding all_in_fields
 fields_test = record { none = refl; more = λ e es. refl }
 

@@ -24,6 +24,7 @@ pub mod PackingFields
 pub mod Paper
 pub mod Places
 pub mod Puts
+pub mod Refusals
 pub mod Rooms
 pub mod RoomsTracks
 pub mod Stores

@@ -1,15 +1,15 @@
 -- An event packed into its word: each field is read from it again, the word has no upper bits, and what unpacking said of a word, by its case. The fields stand side by side, so each is a quotient's remainder.
 -- Assumes nothing.
-use mathlib.Core.Path.{◌≡◌, sym, ap}
+use mathlib.Core.Path.{◌≡◌, refl, sym, ap}
 use Prim.Native.Nat.{ℕ, ◌*◌, ◌<◌}
 use mathlib.Core.Bool.{true, false}
 use mathlib.Core.List.{List, [], ◌∷◌}
+use Rattle.std.proofs.Common.{Option, Some, None, IsSome}
 use lib.ListN.{get_or}
 use native.Mathlib.Omega.{arith}
 use Rattle.sheet.specs.Entry.{packed, on_track, number_in, post_in, answer_in, track_in, upper_zero, values_of, unpacked, entry_word}
 use Rattle.sheet.specs.Layout.{upper_bits}
 use Rattle.sheet.specs.declared.Unpacked.{Unpacked}
-use Rattle.sheet.specs.declared.Unpacked.TheVariants.{Fields, Upper}
 use Rattle.relay.proofs.Truth.{split}
 use Rattle.sheet.proofs.Fields.{In}
 
@@ -43,16 +43,22 @@ apart : {a b c d : ℕ} → (0 ∷ a ∷ b ∷ c ∷ d ∷ []) ≡ (upper_bits �
 apart q = omega (arith, ap (λ (l : List ℕ). get_or l 0 0) q)
 
 -- what unpacking the word w of a sheet of f tracks said, by its case
-module _ (f w : ℕ) (r : Unpacked) (e : values_of r ≡ unpacked f w) where
-  pub told-upper : r ≡ Upper → upper_zero f w ≡ false
+module _ (f w : ℕ) (r : Option Unpacked) (e : values_of r ≡ unpacked f w) where
+  pub told-upper : r ≡ None → upper_zero f w ≡ false
   unfolding unpacked
   told-upper u = split (upper_zero f w) (λ z. absurd (apart (sym (rw (u, z) at e)))) (λ z. z)
 
-  pub told-fields : (number post answer track : ℕ) → r ≡ Fields number post answer track
-      → (upper_zero f w ≡ true) × (number ≡ number_in w) × (post ≡ post_in w) × (answer ≡ answer_in w) × (track ≡ track_in w)
+  pub told-fields : (u : Unpacked) → r ≡ Some u
+      → (upper_zero f w ≡ true) × (u.number ≡ number_in w) × (u.post ≡ post_in w) × (u.answer ≡ answer_in w) × (u.track ≡ track_in w)
   unfolding unpacked
-  told-fields number post answer track u =
+  told-fields u is =
       split (upper_zero f w)
-      (λ z. let q : (0 ∷ number ∷ post ∷ answer ∷ track ∷ []) ≡ (0 ∷ number_in w ∷ post_in w ∷ answer_in w ∷ track_in w ∷ []) = rw (u, z) at e in
+      (λ z. let q : (0 ∷ u.number ∷ u.post ∷ u.answer ∷ u.track ∷ []) ≡ (0 ∷ number_in w ∷ post_in w ∷ answer_in w ∷ track_in w ∷ []) = rw (is, z) at e in
       (z, ap (λ (l : List ℕ). get_or l 1 0) q, ap (λ (l : List ℕ). get_or l 2 0) q, ap (λ (l : List ℕ). get_or l 3 0) q, ap (λ (l : List ℕ). get_or l 4 0) q))
-      (λ z. absurd (apart (rw (u, z) at e)))
+      (λ z. absurd (apart (rw (is, z) at e)))
+
+-- and it hands out the fields where the word has no upper bits
+pub told_some : (f w : ℕ) (r : Option Unpacked) → values_of r ≡ unpacked f w → upper_zero f w ≡ true → IsSome r
+unfolding unpacked
+told_some f w None e z = absurd (apart (sym (rw z at e)))
+told_some f w (Some u) e z = refl

@@ -2,7 +2,7 @@
 -- Assumes nothing.
 use Prim.Native.Nat.{ℕ, ◌+◌, ◌-◌, ◌*◌, ◌/◌, ◌%◌, ◌≤◌, ◌<◌}
 use mathlib.Core.Path.{◌≡◌, refl, sym, ap, ◌∙◌}
-use mathlib.Core.Bool.{Bool, true, false}
+use mathlib.Core.Bool.{Bool, true, false, ◌&&◌}
 use mathlib.Core.List.{List, ◌++◌}
 use native.Mathlib.Omega.{arith}
 use borrow.Author.Tests.{eq-eqb, ne_eqb, le-leb, lt-leb, leb-true, leb-false}
@@ -13,15 +13,16 @@ use Rattle.relay.specs.Kinds.{table_ok}
 use Rattle.sheet.specs.Layout.{most_entries, per_block, one_track, room_short}
 use Rattle.sheet.specs.Words.{tab}
 use Rattle.sheet.specs.Check.{word}
-use Rattle.sheet.specs.Reading.{form_in, kinds_in, form_ok, blocks_in, verdict, verdict_up_to, verdict_of, entries_in, entry_in, decode, refused, found, room_for, read_of, Reads}
+use Rattle.sheet.specs.Sheet.{table_words}
+use Rattle.sheet.specs.Reading.{form_in, kinds_in, form_ok, blocks_in, words_in, verdict, verdict_up_to, verdict_of, entries_in, entry_in, decode, refused, found, room_for, read_of, Reads}
 use Rattle.sheet.specs.Writing.{bytes_for}
-use Rattle.sheet.specs.Shape.{NoUpper}
+use Rattle.sheet.specs.Shape.{NoUpper, Kept}
 use Rattle.sheet.specs.declared.Verdict.{Verdict}
 use Rattle.sheet.proofs.Accepts.{accepted-good}
 use Rattle.sheet.proofs.Good.{Good}
 use Rattle.sheet.proofs.UpperBits.{zero-upper}
 use Rattle.relay.proofs.Truth.{facts, least_or_below}
-use Rattle.sheet.proofs.Table.{fits-few, fits_one}
+use Rattle.sheet.proofs.Table.{fits-few, fits_one, words-few}
 use Rattle.sheet.proofs.Tabs.{length-tab}
 
 -- ---- what a good sheet has
@@ -80,6 +81,17 @@ module _ (most : ℕ) (s : List ℕ) (z : (verdict_up_to most s).number ≡ 0) w
   no_upper i h =
       let p = placed i h in
       zero-upper _ _ (good.fields (1 + i / per_block) (omega arith) p.0 (i % per_block) p.1)
+
+  pub kept : Kept s
+  kept =
+      record {
+        one_block = one_block;
+        not_long = not_long;
+        few_words = words-few s posts-few;
+        few_entries = entries-few;
+        within = entries-within;
+        no_upper = no_upper;
+      }
 
   -- its events fill its blocks
   blocks_by : (b : Bool) → leb n 1 ≡ b → bytes_for (entries_in s) ≡ length s
@@ -168,3 +180,13 @@ module _ (s : List ℕ) (ks : List ℕ) (es : List (List ℕ)) where
     pub room-both : entries_in s ≤ length es → room_for (decode s) (length ks) (length es) ≡ true
     unfolding room_for
     room-both h = rw (kinds-long s, events-long s, le-leb (word s 0 1) (length ks) k, le-leb (entries_in s) (length es) h)
+
+-- the rooms of a good sheet of one track, whose table is its kinds
+module _ (s : List ℕ) (z : (verdict_of s).number ≡ 0) where
+  pub words_one : words_in s ≡ word s 0 1
+  unfolding table_words
+  words_one = rw (form_one s z)
+
+  pub room_one : (a b : ℕ) → room_for (decode s) a b ≡ (leb (words_in s) a && leb (entries_in s) b)
+  unfolding room_for
+  room_one a b = rw (kinds-long s, events-long s, words_one)

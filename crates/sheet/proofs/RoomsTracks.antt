@@ -1,8 +1,8 @@
 -- Reading a sheet of either form into lent room, by its outcomes: a refusal leaves the three rooms, and a good sheet with room enough hands out its table, its events and their tracks.
 -- Assumes nothing.
 use Prim.Native.Nat.{ℕ, ◌+◌}
-use mathlib.Core.Path.{◌≡◌, refl}
-use mathlib.Core.Bool.{true, false, ◌&&◌}
+use mathlib.Core.Path.{◌≡◌, refl, ◌∙◌}
+use mathlib.Core.Bool.{Bool, true, false, ◌&&◌}
 use mathlib.Core.List.{List, ◌++◌}
 use borrow.Author.Tests.{eq-eqb, ne_eqb}
 use lib.Dec.{eqb, leb}
@@ -15,6 +15,10 @@ use Rattle.sheet.specs.Reading.{form_in, verdict, verdict_up_to, entries_in, ent
 use Rattle.sheet.specs.declared.Verdict.{Verdict}
 use Rattle.sheet.proofs.TripRead.{form_is, stamp_is, table-long, events-long, tracks-long, posts-words}
 
+assoc : (a b c : Bool) → (a && (b && c)) ≡ ((a && b) && c)
+assoc true b c = refl
+assoc false b c = refl
+
 -- ---- what a sheet says
 module _ (s : List ℕ) where
   abbrev words : ℕ
@@ -26,6 +30,9 @@ module _ (s : List ℕ) where
   pub room_is : (a b c : ℕ) → room_for_tracks (decode_tracked s) a b c ≡ (leb words a && (leb (entries_in s) b && leb (entries_in s) c))
   unfolding room_for_tracks
   room_is a b c = rw (table-long s, events-long s, tracks-long s) refl
+
+  pub room_parts : (a b c : ℕ) → room_for_tracks (decode_tracked s) a b c ≡ ((leb words a && leb (entries_in s) b) && leb (entries_in s) c)
+  room_parts a b c = room_is a b c ∙ assoc (leb words a) (leb (entries_in s) b) (leb (entries_in s) c)
 
   -- what the loops store is what is handed out
   pub table_out : (ks : List ℕ) → tab (λ i. word s 0 (3 + i)) words ++ drop words ks ≡ (decode_tracked s).table ++ drop (length (decode_tracked s).table) ks

@@ -2,11 +2,10 @@
 -- 01, 'The event sheet': 'An event word packs the event number in bits 0 to 4, post in bits 5 to 10, answer in bits 11 to 15; bits 16 to 31 are zero.'
 -- 02, item 7, of a two-track sheet: 'bit 16 of an event word is the track (0 for track 1) and 24 there speaks of bits 17 to 31'.
 -- Assumes nothing.
-use Rattle.std.specs.Prelude.{ℕ, ◌+◌, ◌*◌, ◌/◌, ◌%◌, Bool, ◌&&◌, List, [], ◌∷◌, ltb, get_or}
+use Rattle.std.specs.Prelude.{ℕ, ◌+◌, ◌*◌, ◌/◌, ◌%◌, Bool, ◌&&◌, List, [], ◌∷◌, Option, Some, None, ltb, get_or}
 use Rattle.relay.specs.Choice.{pick}
 use Rattle.sheet.specs.Layout.{upper_bits}
 use Rattle.sheet.specs.declared.Unpacked.{Unpacked}
-use Rattle.sheet.specs.declared.Unpacked.TheVariants.{Fields, Upper}
 
 -- the four numbers of an event, in this order
 abbrev pub entry : ℕ → ℕ → ℕ → ℕ → List ℕ
@@ -48,9 +47,9 @@ upper_zero tracks w = ltb w (tracks * 65536)
 -- ---- unpacking. 02, item 6: 'Unpacking an event word should say when its upper sixteen bits are not zero'
 -- what each case of its answer stands for: 0 with the event's number, post, answer and track, or 24 and no field
 -- 01: 'If an answer is an enum, a definition sets out this paper's number and values for each of the enum's cases.'
-abbrev pub values_of : Unpacked → List ℕ
-values_of (Fields number post answer track) = 0 ∷ number ∷ post ∷ answer ∷ track ∷ []
-values_of Upper = upper_bits ∷ []
+abbrev pub values_of : Option Unpacked → List ℕ
+values_of (Some u) = 0 ∷ u.number ∷ u.post ∷ u.answer ∷ u.track ∷ []
+values_of None = upper_bits ∷ []
 
 -- what unpacking the event word w of a sheet of so many tracks answers
 unfoldable pub unpacked : ℕ → ℕ → List ℕ

@@ -5,6 +5,7 @@ pub mod Entry
 pub mod Sheet
 pub mod Puts
 pub mod Reading
+pub mod Refusals
 pub mod Shape
 pub mod Writing
 pub mod Given

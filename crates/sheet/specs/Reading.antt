@@ -127,6 +127,10 @@ abbrev pub accepted : List ℕ → Bool
 accepted s = eqb (verdict_of s).number 0
 
 -- ---- what a good sheet says
+-- how many words its table has
+abbrev pub words_in : List ℕ → ℕ
+words_in s = table_words (form_in s) (word s 0 1)
+
 -- how many events: 60 in each event block but the last, and there as many as it says
 unfoldable pub entries_in : List ℕ → ℕ
 entries_in s =

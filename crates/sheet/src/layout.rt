@@ -36,7 +36,7 @@ pub const LAST_CIRCUIT: u32 = 1;
 // The answer of an event that is not yet answered.
 pub const UNANSWERED: u32 = 31;
 
-// The numbers returned.
+// The numbers returned: `Refusal` has values beside some of them, so it cannot carry them itself.
 pub const LENGTH_WRONG: u32 = 18;
 
 pub const CHECK_WRONG: u32 = 19;

@@ -1,56 +1,35 @@
 -- `lent_sheet::read` meets its contract: each refusal leaves both rooms as they were, and past them the kinds and then the events are handed out.
--- past the first test the sheet is accepted
-use Rattle.std.proofs.Common.{◌≡◌, sym, ap, ◌∙◌, arith}
-use Rattle.sheet.specs.Layout.{one_track}
-use Rattle.sheet.specs.Reading.{verdict_of}
-use Rattle.sheet.specs.declared.Verdict.{Verdict}
-use Rattle.sheet.proofs.Rooms.{posts-few, one_block, not_long, entries-few, entries-within, no_upper, found_is, kinds_out, events_out, read-refused, read_short, read_found, room-kinds, room-events, room-both}
+use Rattle.std.proofs.Common.{◌≡◌, Bool, true, false, ◌&&◌, leb, length, sym, refl, ◌∙◌}
+use Rattle.sheet.specs.Reading.{words_in, entries_in}
+use Rattle.std.proofs.lemmas.Result.{err_from_is_err_and}
+use Rattle.sheet.proofs.Refusals.{refuses, passes_as}
+use Rattle.sheet.proofs.Rooms.{found_is, kinds_out, events_out, read-refused, read_short, read_found, words_one, room_one}
 use Rattle.lent_sheet.proofs.read.Goals as goal
-use Rattle.lent_sheet.proofs.read.Goals.{Else-number-ne0}
 
-passed : (c : Else-number-ne0) → (verdict_of c.args.s.now).number ≡ 0
-passed c = sym (ap (λ (v : Verdict). v.number) c.test-v.ensures) ∙ c.if-number-ne0.false
+-- one room asked twice
+twice : (a b : Bool) → ((a && b) && b) ≡ (a && b)
+twice true true = refl
+twice true false = refl
+twice false b = refl
 
-pub returns-then-number-ne0 : goal.returns-then-number-ne0
-returns-then-number-ne0 c = let a = c.args in
-    rw c.refuse.ensures (read-refused a.s.now a.kinds.now a.events.now c.test-v.result c.test-v.ensures c.if-number-ne0.true)
+pub returns-in_err-sheet-clause-reads : goal.returns-in_err-sheet-clause-reads
+returns-in_err-sheet-clause-reads c = let a = c.args in
+    let p = err_from_is_err_and c.from_residual.result c.from_residual.ensures.1 in
+    rw (p.1, p.2) (read-refused a.s.now a.kinds.now a.events.now _ c.in_err-sheet.ensures.tested (refuses _))
 
-pub get_word-n-requires : goal.get_word-n-requires
-get_word-n-requires c = omega (arith, one_block one_track _ (passed (goal.at.get_word-n-requires c).Else-number-ne0))
+pub returns-then-not-fits-clause-reads : goal.returns-then-not-fits-clause-reads
+returns-then-not-fits-clause-reads c = let a = c.args in
+    let z = passes_as _ c.in_ok-sheet.ensures.tested in
+    let no = sym (twice (leb (words_in a.s.now) (length a.kinds.now)) (leb (entries_in a.s.now) (length a.events.now))) ∙ sym (rw c.in_ok-sheet.ensures.same at c.fits.ensures) ∙ c.if-not-fits.true in
+    read_short a.s.now a.kinds.now a.events.now z (room_one a.s.now z _ _ ∙ no)
 
-pub entries_in-m-requires : goal.entries_in-m-requires
-entries_in-m-requires c = not_long one_track _ (passed (goal.at.entries_in-m-requires c).Else-number-ne0)
-
-pub returns-then-kinds-n : goal.returns-then-kinds-n
-returns-then-kinds-n c = let a = c.args in
-    rw c.refuse-then-kinds-n.ensures
-    (read_short a.s.now a.kinds.now a.events.now (passed (goal.at.returns-then-kinds-n c).Else-number-ne0) (room-kinds a.s.now a.kinds.now a.events.now (rw (← c.get_word-n.ensures) c.if-kinds-n.true)))
-
-pub returns-then-events-m : goal.returns-then-events-m
-returns-then-events-m c = let a = c.args in
-    rw c.refuse-then-events-m.ensures
-    (read_short a.s.now a.kinds.now a.events.now (passed (goal.at.returns-then-events-m c).Else-number-ne0)
-    (room-events a.s.now a.kinds.now a.events.now (rw (← c.get_word-n.ensures) c.if-kinds-n.false) (rw (← c.entries_in-m.ensures) c.if-events-m.true)))
-
-pub table-requires : goal.table-requires
-table-requires c = let z = passed (goal.at.table-requires c).Else-number-ne0 in
-    (omega (arith, c.get_word-n.ensures, posts-few one_track _ z), one_block one_track _ z, c.if-kinds-n.false)
-
-pub events-requires : goal.events-requires
-events-requires c = let z = passed (goal.at.events-requires c).Else-number-ne0 in
-    let m = c.entries_in-m.ensures in
-    record { m_le_most_entries = (rw m (entries-few one_track _ z), rw m (entries-within one_track _ z), c.if-events-m.false); no_upper = rw m (no_upper one_track _ z) }
-
-pub get_word-requires : goal.get_word-requires
-get_word-requires c = omega (arith, one_block one_track _ (passed (goal.at.get_word-requires c).Else-number-ne0))
-
-pub overflow_cast-result-2 : goal.overflow_cast-result-2
-overflow_cast-result-2 c = record { fits = omega (arith, c.entries_in-m.ensures, entries-few one_track _ (passed (goal.at.overflow_cast-result-2 c).Else-number-ne0)) }
-
-pub returns : goal.returns
-returns c = let a = c.args in
-    let n = c.get_word-n in
-    let m = c.entries_in-m in
-    let room = room-both a.s.now a.kinds.now a.events.now (rw (← n.ensures) c.if-kinds-n.false) (rw (← m.ensures) c.if-events-m.false) in
-    let r = read_found a.s.now a.kinds.now a.events.now (passed (goal.at.returns c).Else-number-ne0) room in
-    (rw (n.ensures, c.get_word.ensures, m.ensures) (sym (found_is a.s.now) ∙ r.0), c.table.ensures ∙ kinds_out a.s.now a.kinds.now _ n.ensures, c.events.ensures ∙ events_out a.s.now a.events.now _ m.ensures)
+pub returns-clause-reads : goal.returns-clause-reads
+returns-clause-reads c = let a = c.args in
+    let z = passes_as _ c.in_ok-sheet.ensures.tested in
+    let same = c.in_ok-sheet.ensures.same in
+    let yes = sym (twice (leb (words_in a.s.now) (length a.kinds.now)) (leb (entries_in a.s.now) (length a.events.now))) ∙ sym (rw same at c.fits.ensures) ∙ c.if-not-fits.false in
+    let r = read_found a.s.now a.kinds.now a.events.now z (room_one a.s.now z _ _ ∙ yes) in (
+      rw (c.header.ensures, same) (sym (found_is a.s.now) ∙ r.0),
+      (rw same at c.table.ensures) ∙ kinds_out a.s.now a.kinds.now _ (words_one a.s.now z),
+      (rw same at c.events.ensures) ∙ events_out a.s.now a.events.now _ refl,
+    )

@@ -4,16 +4,10 @@ use Rattle.sheet.specs.Reading.{first_upper, zeros, first_bad}
 use Rattle.lent_sheet.proofs.blocks.first_bad.Given as goal
 
 abbrev pub invariant-loop-j : goal.invariant-loop-j
-invariant-loop-j l = (l.j ≤ l.events) × (l.events ≤ 60) × (first_upper l.s l.b l.j (l.events - l.j) ≡ first_upper l.s l.b 0 l.events)
-
-abbrev pub decreases-loop-j : goal.decreases-loop-j
-decreases-loop-j l = l.events - l.j
+invariant-loop-j l = (l.shape.events ≤ 60) × (first_upper l.s l.b l.j (l.shape.events - l.j) ≡ first_upper l.s l.b 0 l.shape.events)
 
 abbrev pub invariant-loop-k : goal.invariant-loop-k
-invariant-loop-k l = (l.k ≤ 127) × (zeros l.s l.b l.k (127 - l.k) ≡ zeros l.s l.b l.initial.k (127 - l.initial.k))
-
-abbrev pub decreases-loop-k : goal.decreases-loop-k
-decreases-loop-k l = 127 - l.k
+invariant-loop-k l = zeros l.s l.b l.k (127 - l.k) ≡ zeros l.s l.b l.initial.k (127 - l.initial.k)
 
 abbrev pub invariant-blocks-2 : goal.invariant-blocks-2
 invariant-blocks-2 l = (l.b ≤ l.n) × (first_bad l.most l.s l.n l.b (l.n - l.b) ≡ first_bad l.most l.s l.n 0 l.n)

@@ -1,14 +1,12 @@
--- `put::all_in_fields` meets its contract: what is left of the events decides.
-use Rattle.std.proofs.Common.{sym, ◌∙◌, arith, rules}
-use borrow.Author.Tests.{not-true, not-false}
-use Rattle.sheet.proofs.Fields.{stops, goes, ended}
+-- `put::all_in_fields` meets its contract: std's test of every event is the definition's.
+use Rattle.std.proofs.Common.{[], ◌∙◌, rules, tests}
+use Rattle.std.proofs.lemmas.Iterator.{YieldsList-from_slice}
+use Rattle.std.proofs.lemmas.Iterator.Search.{all_from_yields_List}
+use Rattle.sheet.specs.Entry.{in_fields}
+use Rattle.sheet.proofs.Along.{along_list}
+use Rattle.sheet.proofs.Fields.{fields_test}
 use Rattle.lent_sheet.proofs.put.all_in_fields.Goals as goal
 
-pub returns-then-not-in_fields : goal.returns-then-not-in_fields
-returns-then-not-in_fields c = sym (stops c.args.events.now c.loop-i.i (omega arith) c.loop-i.invariant.1 (sym c.in_fields.ensures ∙ not-true _ c.if-not-in_fields.true-raw))
-
-pub loop-i-preserved : goal.loop-i-preserved
-loop-i-preserved c = (search rules, goes c.args.events.now c.loop-i.i (omega arith) c.loop-i.invariant.1 (sym c.in_fields.ensures ∙ not-false _ c.if-not-in_fields.false-raw))
-
 pub returns : goal.returns
-returns c = sym (ended c.args.events.now c.loop-i.i (omega arith) c.loop-i.invariant.1)
+returns c = let es = c.args.events.now in
+    all_from_yields_List in_fields _ _ _ c.all.ensures.ran (YieldsList-from_slice es cc) (λ x b q k. search (rules, tests)) ∙ along_list fields_test [] es

@@ -1,10 +1,7 @@
 -- `lent_sheet::words::sum_words` meets its contract: the sum of the words so far, carried round.
-use Rattle.std.proofs.Common.{◌≡◌, ◌-◌, ◌%◌, ◌^◌, ◌≤◌}
+use Rattle.std.proofs.Common.{◌≡◌, ◌%◌, ◌^◌}
 use Rattle.sheet.specs.Check.{sum, word}
 use Rattle.lent_sheet.proofs.words.sum_words.Given as goal
 
 abbrev pub invariant-loop-k : goal.invariant-loop-k
-invariant-loop-k l = (l.k ≤ l.n) × (l.total ≡ sum (word l.s l.b) l.k % 2 ^ 32)
-
-abbrev pub decreases-loop-k : goal.decreases-loop-k
-decreases-loop-k l = l.n - l.k
+invariant-loop-k l = l.total ≡ sum (word l.s l.b) l.k % 2 ^ 32
