@@ -67,6 +67,9 @@ module _ (n : ℕ) where
   pub digits-long_64 : n < 2 ^ 64 → length (digits n) ≤ 20
   digits-long_64 h = digits-within 20 n (omega arith) (omega arith)
 
+-- ---- what counting them by tens goes by
+pub ruleset counted = (digits_one, digits_less, digits-long_64)
+
 -- ---- read as decimal
 pub value-append : (m : ℕ) (xs ys : List ℕ) → value m (xs ++ ys) ≡ value (value m xs) ys
 unfolding value

@@ -14,13 +14,15 @@ pub const WRONG: u64 = 18446744073709551615;
 const TENTH: u64 = 1000000000000000000;
 
 // How many digits `n` has.
+#[tactic(auto, using(crate::proofs::Value::counted))]
 pub fn size_of(n: u64) -> usize
     ensures { result ≡ length (digits n) }
 {
     let mut size: usize = 1;
     let mut rest = n;
+    // What is left falls by tens, so no range counts it.
     while 10 <= rest {
-        rest = rest / 10;
+        rest /= 10;
         size += 1;
     }
     size
@@ -32,33 +34,26 @@ pub fn put_number(out: &mut [u8], at: usize, n: u64) -> usize
     ensures { Put (digits n) at result out.old out.new }
 {
     if n < 10 {
-        out[at] = 48 + n as u8;
+        out[at] = b'0' + n as u8;
         return at + 1;
     }
     let p = put_number(out, at, n / 10);
-    out[p] = 48 + (n % 10) as u8;
+    out[p] = b'0' + (n % 10) as u8;
     p + 1
 }
 
 // The mark `m` of the bytes read so far after one more: 0 says nothing, n + 1 the digits of n, `WRONG` anything else.
+#[tactic(auto, unfolding(crate::specs::Numerals::with_digit, crate::specs::Numerals::is_digit))]
 pub fn with_digit(m: u64, byte: u8) -> u64
     ensures { result ≡ with_digit m byte }
 {
-    if byte < 48 {
+    if !byte.is_ascii_digit() {
         return WRONG;
     }
-    if 57 < byte {
-        return WRONG;
+    let digit = (byte - b'0') as u64;
+    match m {
+        0 => digit + 1,
+        2..=TENTH => (m - 1) * 10 + digit + 1,
+        _ => WRONG,
     }
-    let digit = (byte - 48) as u64;
-    if m == 0 {
-        return digit + 1;
-    }
-    if m == 1 {
-        return WRONG;
-    }
-    if m <= TENTH {
-        return (m - 1) * 10 + digit + 1;
-    }
-    WRONG
 }

@@ -2,6 +2,7 @@ pub mod Joins
 pub mod Marks
 pub mod Registers
 pub mod Outcomes
+pub mod Read
 pub mod Page
 pub mod One
 pub mod Calls

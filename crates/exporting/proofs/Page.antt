@@ -1,5 +1,6 @@
 -- A page has room for any register: an accepted sheet has at most 32 kinds and 3,780 events, and each record is short, since its numbers are.
 -- Assumes nothing.
+use Rattle.std.specs.Prelude.{Some, None}
 use Prim.Native.Nat.{ℕ, ◌+◌, ◌^◌, ◌≤◌, ◌<◌}
 use mathlib.Core.Path.{◌≡◌, ap, ◌∙◌}
 use mathlib.Core.List.{List}
@@ -21,7 +22,7 @@ use Rattle.register.proofs.Sheets.{table-small}
 use Rattle.exporting.specs.Exporting.{text_for, done, export_of}
 use Rattle.exporting.specs.Fields.{field, count, event_fields, text_at}
 use Rattle.exporting.proofs.Joins.{joined_none, joined-long, joined-split, joined-within}
-use Rattle.exporting.proofs.Marks.{field_none, field-some, text-long, register_long}
+use Rattle.exporting.proofs.Marks.{field_none, field_some, text_long, register_long}
 use Rattle.exporting.proofs.Registers.{at_start, at_kind, at_event, exported_is}
 
 -- `PAGE` of the code: 34 + 16 + 32 * 10 + 3780 * 26
@@ -30,10 +31,10 @@ page = 98650
 
 -- ---- each record is short
 -- a number below 10 to the f
-some-within : (f n : ℕ) → 1 ≤ f → n < 10 ^ f → length (field (n + 1)) ≤ f
-some-within f n l h = rw (field-some n) (digits-within f n l h)
+some-within : (f n : ℕ) → 1 ≤ f → n < 10 ^ f → length (field (Some n)) ≤ f
+some-within f n l h = rw (field_some n) (digits-within f n l h)
 
-none_long : length (field 0) ≡ 0
+none_long : length (field None) ≡ 0
 none_long = ap (λ (t : List ℕ). length t) field_none
 
 module _ (t : Sheet) (w : Writable t) (few : length t.kinds ≤ 32) where
@@ -45,13 +46,13 @@ module _ (t : Sheet) (w : Writable t) (few : length t.kinds ≤ 32) where
 
   start_short : length (text 0) ≤ 16
   start_short =
-      rw (at_start t.stamp t.kinds t.events, text-long)
+      rw (at_start t.stamp t.kinds t.events, text_long)
       (omega (arith, none_long, some-within 10 t.stamp (omega arith) (omega (arith, w.stamp))))
 
   kind-short : (j : ℕ) → j < n → length (text (1 + j)) ≤ 10
   kind-short j h =
       let e : 1 + j ≡ j + 1 = omega arith in
-      rw (e, at_kind t.stamp t.kinds t.events j h, text-long)
+      rw (e, at_kind t.stamp t.kinds t.events j h, text_long)
       (omega (arith, none_long, some-within 2 (get_or t.kinds j 0) (omega arith) (omega (arith, table-small t.kinds w.table j)), some-within 2 j (omega arith) (omega arith)))
 
   event-short : (k : ℕ) → k < length t.events → length (text (1 + n + k)) ≤ 26
@@ -60,11 +61,10 @@ module _ (t : Sheet) (w : Writable t) (few : length t.kinds ≤ 32) where
       let e : 1 + n + k ≡ n + k + 1 = omega arith in
       let v = event_at t k in
       let i = in_fields t w k h in
-      let p : k + 2 ≡ 1 + k + 1 = omega arith in
-      rw (e, at_event t.stamp t.kinds t.events k, text-long, p)
+      rw (e, at_event t.stamp t.kinds t.events k, text_long)
       (omega (
         arith,
-        some-within 4 (1 + k) (omega arith) (omega (arith, w.most)),
+        some-within 4 (k + 1) (omega arith) (omega (arith, w.most)),
         some-within 2 (number_of v) (omega arith) (omega (arith, i.number)),
         some-within 2 (post_of v) (omega arith) (omega (arith, i.post)),
         some-within 10 (stamp_of v) (omega arith) (omega (arith, w.stamps k h)),

@@ -1,5 +1,6 @@
 -- The register as it is put is the register: the lines of any records are their texts one after the other, and record i has the fields that its marks say.
 -- Assumes nothing.
+use Rattle.std.specs.Prelude.{Option, Some, None}
 use Prim.Native.Nat.{ℕ, zero, suc, ◌+◌, ◌-◌, ◌≤◌, ◌<◌}
 use mathlib.Core.Path.{◌≡◌, refl, sym, ap, ◌∙◌}
 use mathlib.Core.List.{List, [], ◌∷◌, ◌++◌, append_assoc, append-nil}
@@ -16,7 +17,7 @@ use Rattle.register.specs.Register.{exported}
 use Rattle.sheet.specs.Sheet.{Sheet}
 use Rattle.register.proofs.More.{kinds-many, events-many}
 use Rattle.exporting.specs.Fields.{header_line, field, ended, fields, text_of, count, event_fields, fields_at, text_at, register_of}
-use Rattle.exporting.proofs.Marks.{field_none, field-some}
+use Rattle.exporting.proofs.Marks.{field_none, field_some}
 
 -- ---- the lines of any records
 -- a record's bytes and its line end
@@ -53,7 +54,7 @@ module _ (rs : List (List (List ℕ))) (f : ℕ → List ℕ) (same : (i : ℕ) 
 
 -- ---- the records of a sheet
 -- five fields
-five : (f : List (List ℕ)) (a b c d e : ℕ) → f ≡ field a ∷ field b ∷ field c ∷ field d ∷ field e ∷ [] → record_text f ≡ text_of (fields a b c d e)
+five : (f : List (List ℕ)) (a b c d e : Option ℕ) → f ≡ field a ∷ field b ∷ field c ∷ field d ∷ field e ∷ [] → record_text f ≡ text_of (fields a b c d e)
 unfolding record_text bare_in line text_of ended
 five f a b c d e h = rw h (simp append_assoc)
 
@@ -71,11 +72,11 @@ event_at i (e ∷ es) (suc j) h = let z : i + suc j ≡ suc i + j = omega arith 
 
 module _ (stamp : ℕ) (ks : List ℕ) (es : List (List ℕ)) where
   -- what fields_at says, by the kind of the record
-  pub at_start : fields_at stamp ks es 0 ≡ fields 0 0 0 (stamp + 1) 0
+  pub at_start : fields_at stamp ks es 0 ≡ fields None None None (Some stamp) None
   unfolding fields_at
   at_start = refl
 
-  pub at_kind : (j : ℕ) → j < length ks → fields_at stamp ks es (j + 1) ≡ fields 0 (get_or ks j 0 + 1) (j + 1) 0 0
+  pub at_kind : (j : ℕ) → j < length ks → fields_at stamp ks es (j + 1) ≡ fields None (Some (get_or ks j 0)) (Some j) None None
   unfolding fields_at
   at_kind j h = let e : j + 1 - 1 ≡ j = omega arith in rw (ne_eqb (j + 1) 0 (λ z. omega arith), e, lt-ltb j (length ks) h)
 
@@ -95,22 +96,22 @@ module _ (stamp : ℕ) (ks : List ℕ) (es : List (List ℕ)) where
 
   start_text : record_text (start_record stamp) ≡ text_at stamp ks es 0
   unfolding start_record
-  start_text = rw at_start (five _ 0 0 0 (stamp + 1) 0 (rw (field_none, field-some stamp)))
+  start_text = rw at_start (five _ None None None (Some stamp) None (rw (field_none, field_some stamp)))
 
   kind-text : (j : ℕ) → j < length ks → record_text (get_or rest (j + 1) []) ≡ text_at stamp ks es (j + 1)
   unfolding kind_record
   kind-text j h =
       let z : 0 + j ≡ j = omega arith in
-      rw (at_kind j h, add-one j, get_or-append (kind_records 0 ks) (event_records 1 es) [] j (omega (arith, kinds-many 0 ks)), kind_at 0 ks j h, z, ← add-one j)
-      (five _ 0 (get_or ks j 0 + 1) (j + 1) 0 0 (rw (field_none, field-some, field-some)))
+      rw (at_kind j h, add-one j, get_or-append (kind_records 0 ks) (event_records 1 es) [] j (omega (arith, kinds-many 0 ks)), kind_at 0 ks j h, z)
+      (five _ None (Some (get_or ks j 0)) (Some j) None None (rw (field_none, field_some, field_some)))
 
   event-text : (k : ℕ) → k < length es → record_text (get_or rest (length ks + k + 1) []) ≡ text_at stamp ks es (length ks + k + 1)
   unfolding event_record event_fields
   event-text k h =
-      let e : k + 2 ≡ 1 + k + 1 = omega arith in
+      let e : k + 1 ≡ 1 + k = omega arith in
       let s : get_or rest (length ks + k + 1) [] ≡ event_record (1 + k) (get_or es k []) =
       rw (add-one, ← kinds-many 0 ks) (get_or-append-add (kind_records 0 ks) (event_records 1 es) k [] ∙ event_at 1 es k h) in
-      rw (at_event k, s, e) (five _ _ _ _ _ _ (rw (field-some, field-some, field-some, field-some, field-some)))
+      rw (at_event k, s, e) (five _ _ _ _ _ _ (rw (field_some, field_some, field_some, field_some, field_some)))
 
   each-text : (i : ℕ) → i < length rest → record_text (get_or rest i []) ≡ text_at stamp ks es i
   each-text zero h = start_text

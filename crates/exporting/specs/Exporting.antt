@@ -1,11 +1,13 @@
 -- Export. 02, item 3: 'Export a sheet to text by RFC 4180'.
 -- What is returned and what is written, each one equation: a refusal of reading with its block and position, 21 for an output too short, or 0 and the register's text at the front of the output.
 -- Assumes nothing.
-use Rattle.std.specs.Prelude.{ℕ, not, ◌≡◌, List, ◌++◌, eqb, ltb, length, drop}
+use Rattle.std.specs.Prelude.{ℕ, not, ◌≡◌, List, ◌++◌, Result, Ok, Err, eqb, ltb, length, drop}
 use Rattle.relay.specs.Choice.{pick}
 use Rattle.sheet.specs.Layout.{two_tracks, contents_wrong, room_short}
 use Rattle.sheet.specs.Reading.{accepted, verdict, verdict_of, decode, form_in, verdict_up_to}
+use Rattle.sheet.specs.Refusals.{verdict_of_refusal}
 use Rattle.sheet.specs.declared.Verdict.{Verdict}
+use Rattle.sheet.specs.declared.refusal.Refusal.{Refusal}
 use Rattle.register.specs.Register.{exported}
 use Rattle.exporting.specs.declared.Exported.{Exported}
 
@@ -16,6 +18,11 @@ refused v = record { number = v.number; block = v.block; position = v.position; 
 -- what export returns of a text of n bytes
 abbrev pub done : ℕ → Exported
 done n = record { number = 0; block = 0; position = 0; bytes = n }
+
+-- what an outcome of export returns: how long the text is, or its refusal
+abbrev pub exported_of : Result ℕ Refusal → Exported
+exported_of (Ok n) = done n
+exported_of (Err refusal) = refused (verdict_of_refusal refusal)
 
 -- the register of the sheet s
 abbrev pub text_for : List ℕ → List ℕ

@@ -1,7 +1,7 @@
--- The register as it is put: the header's bytes, and then record by record five fields, each by a mark: 0 for an empty field, n + 1 for the number n.
+-- The register as it is put: the header's bytes, and then record by record five fields, each of a number or empty.
 -- That this is the text of 02, item 3, which the register crate defines, stands in proofs/Registers.antt.
 -- Assumes nothing.
-use Rattle.std.specs.Prelude.{ℕ, ◌+◌, ◌-◌, ◌≤◌, List, [], ◌∷◌, ◌++◌, eqb, ltb, length, get_or}
+use Rattle.std.specs.Prelude.{ℕ, ◌+◌, ◌-◌, ◌≤◌, List, [], ◌∷◌, ◌++◌, Option, Some, None, eqb, ltb, length, get_or}
 use Rattle.relay.specs.Choice.{pick}
 use Rattle.digits.specs.Digits.{digits}
 use Rattle.digits.specs.Texts.{joined}
@@ -19,15 +19,16 @@ header_line =
     ∷ 97 ∷ 110 ∷ 115 ∷ 119 ∷ 101 ∷ 114 ∷ 13 ∷ 10
     ∷ []
 
--- the field of a mark
-unfoldable pub field : ℕ → List ℕ
-field m = pick (eqb m 0) [] (digits (m - 1))
+-- a field: a number's digits, or nothing
+unfoldable pub field : Option ℕ → List ℕ
+field (Some n) = digits n
+field None = []
 
 -- a field and the byte after it
-unfoldable pub ended : ℕ → ℕ → List ℕ
-ended m b = field m ++ (b ∷ [])
+unfoldable pub ended : Option ℕ → ℕ → List ℕ
+ended number b = field number ++ (b ∷ [])
 
-abbrev pub fields : ℕ → ℕ → ℕ → ℕ → ℕ → Fields
+abbrev pub fields : Option ℕ → Option ℕ → Option ℕ → Option ℕ → Option ℕ → Fields
 fields position event post stamp answer =
     record { position = position; event = event; post = post; stamp = stamp; answer = answer }
 
@@ -48,13 +49,13 @@ Few kinds events = (length kinds ≤ 32) × (length events ≤ 3780)
 
 -- event k, at position k + 1
 unfoldable pub event_fields : ℕ → List ℕ → Fields
-event_fields k e = fields (k + 2) (number_of e + 1) (post_of e + 1) (stamp_of e + 1) (answer_of e + 1)
+event_fields k e = fields (Some (k + 1)) (Some (number_of e)) (Some (post_of e)) (Some (stamp_of e)) (Some (answer_of e))
 
 -- record i after the header: the start, each post's kind, each event
 unfoldable pub fields_at : ℕ → List ℕ → List (List ℕ) → ℕ → Fields
 fields_at stamp kinds events i =
-    pick (eqb i 0) (fields 0 0 0 (stamp + 1) 0)
-    (pick (ltb (i - 1) (length kinds)) (fields 0 (get_or kinds (i - 1) 0 + 1) (i - 1 + 1) 0 0)
+    pick (eqb i 0) (fields None None None (Some stamp) None)
+    (pick (ltb (i - 1) (length kinds)) (fields None (Some (get_or kinds (i - 1) 0)) (Some (i - 1)) None None)
     (event_fields (i - 1 - length kinds) (get_or events (i - 1 - length kinds) [])))
 
 abbrev pub text_at : ℕ → List ℕ → List (List ℕ) → ℕ → List ℕ

@@ -4,16 +4,16 @@
 
 ghost use Rattle.std.specs.Prelude.{◌+◌, ◌≤◌, ◌<◌, ◌≡◌, length};
 ghost use Rattle.digits.specs.Texts.{Put};
-ghost use Rattle.sheet.specs.Reading.{verdict_at};
 ghost use Rattle.exporting.specs.Fields.{field, ended, text_of, count, fields_at, register_of, Few};
-ghost use Rattle.exporting.specs.Exporting.{refused, Exports, ExportsTracks};
+ghost use Rattle.exporting.specs.Exporting.{exported_of, Exports, ExportsTracks};
 
-use sheet::layout::{CONTENTS_WRONG, MOST_ENTRIES, ROOM_SHORT};
+use sheet::Refusal;
+use sheet::layout::MOST_ENTRIES;
 
 // Room for any register: the header, the start, 32 kinds and 3,780 events.
 pub const PAGE: usize = 34 + 16 + 32 * 10 + MOST_ENTRIES * 26;
 
-// What export returns: the number, block and position of a refusal, or zeros and how long the text is.
+// What export returns to C: the number, block and position of a refusal, or zeros and how long the text is.
 #[repr(C)]
 #[derive(Clone, Copy)]
 pub struct Exported {
@@ -23,70 +23,41 @@ pub struct Exported {
     pub bytes: usize,
 }
 
-// The five fields of a record, each by a mark: 0 for an empty one, n + 1 for the number n.
+// What the first record says.
+const HEADER: &[u8] = b"position,event,post,stamp,answer\r\n";
+
+// The five fields of a record; an empty one is none.
 #[derive(Clone, Copy)]
 struct Fields {
-    position: u64,
-    event: u64,
-    post: u64,
-    stamp: u64,
-    answer: u64,
+    position: Option<u64>,
+    event: Option<u64>,
+    post: Option<u64>,
+    stamp: Option<u64>,
+    answer: Option<u64>,
 }
 
-// The mark of a number.
-fn mark(n: u32) -> u64
-    ensures { result ≡ n + 1 }
-{
-    n as u64 + 1
-}
-
-// The fields of record `i` after the header: the start, each post's kind, each event.
-fn fields_at(i: usize, stamp: u32, kinds: &[u32], events: &[[u32; 4]]) -> Fields
-    requires { Few kinds.now events.now × (i < count kinds.now events.now) }
-    ensures { result ≡ fields_at stamp kinds.now events.now i }
-{
-    if i == 0 {
-        return Fields {
-            position: 0,
-            event: 0,
-            post: 0,
-            stamp: mark(stamp),
-            answer: 0,
-        };
-    }
-    let j = i - 1;
-    let n = kinds.len();
-    if j < n {
-        return Fields {
-            position: 0,
-            event: mark(kinds[j]),
-            post: j as u64 + 1,
-            stamp: 0,
-            answer: 0,
-        };
-    }
-    let k = j - n;
-    let e = events[k];
-    Fields {
-        position: k as u64 + 2,
-        event: mark(e[0]),
-        post: mark(e[1]),
-        stamp: mark(e[3]),
-        answer: mark(e[2]),
-    }
-}
+// A record with nothing in it.
+const EMPTY: Fields = Fields {
+    position: None,
+    event: None,
+    post: None,
+    stamp: None,
+    answer: None,
+};
 
 // How long a field is with the byte after it.
-fn field_size(m: u64) -> usize
-    ensures { (result ≡ length (field m) + 1) × (result ≤ 21) }
+#[tactic(auto, unfolding(crate::specs::Fields::field), using(digits::proofs::Value::counted))]
+fn field_size(number: Option<u64>) -> usize
+    ensures { (result ≡ length (field number) + 1) × (result ≤ 21) }
 {
-    if m == 0 {
-        return 1;
+    match number {
+        Some(n) => digits::size_of(n) + 1,
+        None => 1,
     }
-    digits::size_of(m - 1) + 1
 }
 
 // How long a record is with its line end.
+#[tactic(auto, using(crate::proofs::Marks::text_long))]
 fn record_size(f: Fields) -> usize
     ensures { (result ≡ length (text_of f)) × (result ≤ 106) }
 {
@@ -98,129 +69,175 @@ fn record_size(f: Fields) -> usize
         + 1
 }
 
-// How long the register is.
-fn size_of(stamp: u32, kinds: &[u32], events: &[[u32; 4]]) -> usize
-    requires { Few kinds.now events.now }
-    ensures { result ≡ length (register_of stamp kinds.now events.now) }
-{
-    let n = 1 + kinds.len() + events.len();
-    let mut size: usize = 34;
-    let mut i: usize = 0;
-    while i < n {
-        let f = fields_at(i, stamp, kinds, events);
-        size += record_size(f);
-        i += 1;
-    }
-    size
-}
-
-// The bytes of `text` at the front; how many they are.
+// A text's bytes at the front; how many they are.
+#[tactic(auto, unfolding(digits::specs::Texts::stored))]
 fn put_bytes(out: &mut [u8], text: &[u8]) -> usize
     requires { length text.now ≤ length out.old }
     ensures { Put text.now 0 result out.old out.new }
 {
-    let mut i: usize = 0;
-    while i < text.len() {
-        out[i] = text[i];
-        i += 1;
+    out[..text.len()].copy_from_slice(text);
+    text.len()
+}
+
+// A field, from `at` on; the place past it.
+#[tactic(auto, unfolding(crate::specs::Fields::field), using(digits::proofs::Stores::stored_none))]
+fn put_number(out: &mut [u8], at: usize, number: Option<u64>) -> usize
+    requires { at + length (field number) ≤ length out.old }
+    ensures { Put (field number) at result out.old out.new }
+{
+    match number {
+        Some(n) => digits::put_number(out, at, n),
+        None => at,
     }
-    i
 }
 
 // A field and the byte after it, from `at` on; the place past them.
-fn put_field(out: &mut [u8], at: usize, m: u64, end: u8) -> usize
-    requires { at + length (ended m end) ≤ length out.old }
-    ensures { Put (ended m end) at result out.old out.new }
+fn put_field(out: &mut [u8], at: usize, number: Option<u64>, end: u8) -> usize
+    requires { at + length (ended number end) ≤ length out.old }
+    ensures { Put (ended number end) at result out.old out.new }
 {
-    if m == 0 {
-        out[at] = end;
-        return at + 1;
-    }
-    let p = digits::put_number(out, at, m - 1);
+    let p = put_number(out, at, number);
     out[p] = end;
     p + 1
 }
 
-// A record and its line end, from `at` on; the place past them.
+// A record and its line end, from `at` on; the place past them. Its fields stand by their names, and are no list.
 fn put_record(out: &mut [u8], at: usize, f: Fields) -> usize
     requires { at + length (text_of f) ≤ length out.old }
     ensures { Put (text_of f) at result out.old out.new }
 {
-    let a = put_field(out, at, f.position, 44);
-    let b = put_field(out, a, f.event, 44);
-    let c = put_field(out, b, f.post, 44);
-    let d = put_field(out, c, f.stamp, 44);
-    let e = put_field(out, d, f.answer, 13);
-    out[e] = 10;
+    let a = put_field(out, at, f.position, b',');
+    let b = put_field(out, a, f.event, b',');
+    let c = put_field(out, b, f.post, b',');
+    let d = put_field(out, c, f.stamp, b',');
+    let e = put_field(out, d, f.answer, b'\r');
+    out[e] = b'\n';
     e + 1
 }
 
-// The register at the front; how long it is.
-fn put_text(out: &mut [u8], stamp: u32, kinds: &[u32], events: &[[u32; 4]]) -> usize
-    requires { Few kinds.now events.now × (length (register_of stamp kinds.now events.now) ≤ length out.old) }
-    ensures { Put (register_of stamp kinds.now events.now) 0 result out.old out.new }
-{
-    let n = 1 + kinds.len() + events.len();
-    let mut p = put_bytes(out, b"position,event,post,stamp,answer\r\n");
-    let mut i: usize = 0;
-    while i < n {
-        let f = fields_at(i, stamp, kinds, events);
-        p = put_record(out, p, f);
-        i += 1;
-    }
-    p
+// What a register says: the start, each post's kind, each event. No more of either than a sheet can have.
+#[derive(Clone, Copy)]
+struct Register<'a> {
+    stamp: u32,
+    kinds: &'a [u32],
+    events: &'a [[u32; 4]],
+    ghost few: { Few kinds.now events.now },
 }
 
-// What a refusal returns.
-fn refuse(number: u32, block: u32, position: u32) -> Exported
-    ensures { result ≡ refused (verdict_at number block position) }
-{
-    Exported {
-        number: number,
-        block: block,
-        position: position,
-        bytes: 0,
+impl<'a> Register<'a> {
+    // How many records follow the header.
+    fn count(&self) -> usize
+        ensures { result ≡ count self.now.kinds.now self.now.events.now }
+    {
+        1 + self.kinds.len() + self.events.len()
+    }
+
+    // The fields of record `i` after the header.
+    #[tactic(auto, unfolding(crate::specs::Fields::fields_at, crate::specs::Fields::event_fields))]
+    fn fields_at(&self, i: usize) -> Fields
+        requires { i < count self.now.kinds.now self.now.events.now }
+        ensures { result ≡ fields_at self.now.stamp self.now.kinds.now self.now.events.now i }
+    {
+        if i == 0 {
+            return Fields {
+                stamp: Some(self.stamp as u64),
+                ..EMPTY
+            };
+        }
+        let post = i - 1;
+        if post < self.kinds.len() {
+            return Fields {
+                event: Some(self.kinds[post] as u64),
+                post: Some(post as u64),
+                ..EMPTY
+            };
+        }
+        let before = post - self.kinds.len();
+        let [event, post, answer, stamp] = self.events[before];
+        Fields {
+            position: Some(before as u64 + 1),
+            event: Some(event as u64),
+            post: Some(post as u64),
+            stamp: Some(stamp as u64),
+            answer: Some(answer as u64),
+        }
+    }
+
+    // How long its text is.
+    fn size(&self) -> usize
+        ensures { result ≡ length (register_of self.now.stamp self.now.kinds.now self.now.events.now) }
+    {
+        let mut size = HEADER.len();
+        for i in 0..self.count() {
+            size += record_size(self.fields_at(i));
+        }
+        size
+    }
+
+    // Its text at the front; how long it is.
+    fn put(&self, out: &mut [u8]) -> usize
+        requires { length (register_of self.now.stamp self.now.kinds.now self.now.events.now) ≤ length out.old }
+        ensures { Put (register_of self.now.stamp self.now.kinds.now self.now.events.now) 0 result out.old out.new }
+    {
+        let mut p = put_bytes(out, HEADER);
+        for i in 0..self.count() {
+            p = put_record(out, p, self.fields_at(i));
+        }
+        p
     }
 }
 
-// The register of the sheet to the front of `out`. A refusal leaves `out` as it was.
-pub fn export(s: &[u8], out: &mut [u8]) -> Exported
-    ensures { Exports s.now result out.old out.new }
+impl From<Result<usize, Refusal>> for Exported {
+    // What export said, in numbers.
+    fn from(exported: Result<usize, Refusal>) -> Exported
+        ensures { result ≡ exported_of exported }
+    {
+        match exported {
+            Ok(bytes) => Exported {
+                number: 0,
+                block: 0,
+                position: 0,
+                bytes,
+            },
+            Err(refusal) => {
+                let verdict = refusal.verdict();
+                Exported {
+                    number: verdict.number,
+                    block: verdict.block,
+                    position: verdict.position,
+                    bytes: 0,
+                }
+            }
+        }
+    }
+}
+
+// The register of the sheet to the front of `out`; how long it is. A refusal leaves `out` as it was.
+pub fn export(s: &[u8], out: &mut [u8]) -> Result<usize, Refusal>
+    ensures { Exports s.now (exported_of result) out.old out.new }
 {
     let mut kinds = [0u32; 32];
     let mut events = [[0u32; 4]; MOST_ENTRIES];
-    let found = lent_sheet::read(s, &mut kinds, &mut events);
-    if found.number != 0 {
-        return refuse(found.number, found.block, found.position);
-    }
-    let n = found.posts as usize;
-    let m = found.events as usize;
-    let ks = &kinds[..n];
-    let es = &events[..m];
-    let size = size_of(found.stamp, ks, es);
+    let header = lent_sheet::read(s, &mut kinds, &mut events)?;
+    let register = Register {
+        stamp: header.stamp,
+        kinds: &kinds[..header.posts as usize],
+        events: &events[..header.events as usize],
+    };
+    let size = register.size();
     if out.len() < size {
-        return refuse(ROOM_SHORT, 0, 0);
+        return Err(Refusal::RoomShort);
     }
-    put_text(out, found.stamp, ks, es);
-    Exported {
-        number: 0,
-        block: 0,
-        position: 0,
-        bytes: size,
-    }
+    Ok(register.put(out))
 }
 
 // The same where sheets of one track and of two are read: one of two tracks, which has no register, is refused.
-pub fn export_tracks(s: &[u8], out: &mut [u8]) -> Exported
-    ensures { ExportsTracks s.now result out.old out.new }
+pub fn export_tracks(s: &[u8], out: &mut [u8]) -> Result<usize, Refusal>
+    ensures { ExportsTracks s.now (exported_of result) out.old out.new }
 {
-    let v = lent_sheet::test_tracks(s);
-    if v.number != 0 {
-        return refuse(v.number, v.block, v.position);
-    }
-    let one = lent_sheet::test(s);
-    if one.number != 0 {
-        return refuse(CONTENTS_WRONG, 0, 0);
+    lent_sheet::test_tracks(s)?;
+    if lent_sheet::test(s).is_err() {
+        return Err(Refusal::Contents(0));
     }
     export(s, out)
 }

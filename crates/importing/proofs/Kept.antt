@@ -7,11 +7,14 @@ use native.Mathlib.Numerals.{add-one}
 use native.Mathlib.Omega.{arith}
 use borrow.Author.Tests.{eq-eqb, ne_eqb}
 use lib.ListN.{length, set, take, length-append, length-set}
-use lib.Seq.{take-suc-set}
+use lib.Seq.{take-suc-set, set_out}
 use Rattle.importing.specs.Rooms.{Fed, entry_in, kept_kind, kept_event, fed_next, fed}
 use Rattle.importing.specs.Steps.{number_in, state_next}
 use Rattle.importing.specs.declared.steps.State.{State}
 use Rattle.importing.proofs.Fold.{kinds-long, events-long}
+
+-- what one more changes: nothing where none is told, nor past the room
+pub ruleset storing = (eq-eqb, ne_eqb, set_out)
 
 abbrev pub Kept : {X : Type 0} → List X → List X → Type 0
 Kept xs room = length xs ≤ length room → take (length xs) room ≡ xs

@@ -1,7 +1,6 @@
 pub mod Letters
 pub mod Marks
 pub mod Judged
-pub mod Counts
 pub mod Fold
 pub mod Kept
 pub mod Told

@@ -1,7 +1,7 @@
 -- What import returns and writes, for every text and every output. 02, item 3: 'import 28 with the number (the header is 1) of the first record that can't stand there in a right text of any length, or of the first one missing, then 18 for more than 3,780 events, then 21'.
 -- And the same by the state and the rooms that a text fed in pieces leaves. That the two agree stands in proofs/Follows.antt and the proof of `import`.
 -- Assumes nothing.
-use Rattle.std.specs.Prelude.{ℕ, ◌+◌, Bool, true, false, not, ◌&&◌, ◌≡◌, List, ◌++◌, eqb, leb, ltb, length, take, drop}
+use Rattle.std.specs.Prelude.{ℕ, ◌+◌, Bool, true, false, not, ◌&&◌, ◌≡◌, List, ◌++◌, Result, Ok, Err, eqb, leb, ltb, length, take, drop}
 use Rattle.relay.specs.Answers.{notValid}
 use Rattle.relay.specs.Choice.{pick}
 use Rattle.sheet.specs.Layout.{most_entries, length_wrong, room_short}
@@ -13,9 +13,11 @@ use Rattle.register.specs.declared.Mode.{Mode}
 use Rattle.register.specs.declared.Mode.TheVariants.{Start, Plain, Inside, Closing, AtCr, Broken}
 use Rattle.register.specs.declared.Stage.{Stage}
 use Rattle.register.specs.declared.Stage.TheVariants.{AtHeader, AtStart, AtKinds, AtEvents}
+use Rattle.importing.specs.Refusals.{number_of_refusal, record_of_refusal}
 use Rattle.importing.specs.Rooms.{Fed, fed}
 use Rattle.importing.specs.Steps.{most_counted}
 use Rattle.importing.specs.declared.Imported.{Imported}
+use Rattle.importing.specs.declared.refusal.Refusal.{Refusal}
 use Rattle.importing.specs.declared.steps.State.{State}
 
 -- a refusal returns its number and its record, nothing else
@@ -24,6 +26,11 @@ refused number at = record { number = number; at = at; bytes = 0 }
 
 abbrev pub imported : ℕ → Imported
 imported n = record { number = 0; at = 0; bytes = n }
+
+-- what an outcome of import returns: how many bytes the sheet has, or its refusal
+abbrev pub imported_of : Result ℕ Refusal → Imported
+imported_of (Ok n) = imported n
+imported_of (Err refusal) = refused (number_of_refusal refusal) (record_of_refusal refusal)
 
 -- ---- by the text
 -- what is returned, with an output of m bytes

@@ -1,19 +1,21 @@
 // A register's text brought back to a sheet: taken a byte at a time, by value, and the sheet that it says written.
 // 02, item 3. `import` takes a text in lent bytes; a program that reads a text in pieces calls `feed` for each, and then `settle`.
 
-#![tactic(auto)]
+#![tactic(auto, unfolding(crate::specs::Rooms::entry_in, crate::specs::Importing::is_whole, crate::specs::Importing::is_done, crate::specs::Importing::record_in, crate::specs::Importing::closed))]
 
-ghost use Rattle.std.specs.Prelude.{◌≡◌, length};
-ghost use Rattle.importing.specs.Importing.{refused, is_start, is_whole, is_done, record_at, record_in, closed, settle_of, settle_into, Settles, Imports};
+ghost use Rattle.std.specs.Prelude.{◌≡◌, IfErr, length};
+ghost use Rattle.importing.specs.Importing.{imported_of, is_whole, is_done, record_at, record_in, closed, settle_of, settle_into, Settles, Imports};
+ghost use Rattle.importing.specs.Refusals.{NamesNoBlock};
 ghost use Rattle.importing.specs.Rooms.{entry_in, fed_at, kept_kind, kept_event, fed_next, Feeds};
-ghost use Rattle.register.specs.Register.{is_events};
 
+mod refusal;
 mod stands;
 pub mod steps;
 
-use register::{Mode, Stage, WRONG_RECORD};
-use sheet::layout::{BLOCK_BYTES, LENGTH_WRONG, MOST_ENTRIES, PER_BLOCK};
-use stands::MOST_COUNTED;
+pub use refusal::Refusal;
+use register::{Mode, Stage};
+use sheet::layout::{BLOCK_BYTES, MOST_ENTRIES, PER_BLOCK};
+use stands::{MOST_COUNTED, number_of};
 use steps::{Marks, State};
 
 // What import returns: the number, at which record (of 28; the header is 1; else 0), and of a sheet that was written how many bytes it has.
@@ -26,53 +28,46 @@ pub struct Imported {
 }
 
 // The event that a record's marks say, as a sheet has it.
-fn entry_of(k: Marks) -> [u32; 4]
-    ensures { result ≡ entry_in k }
+fn entry_of(marks: Marks) -> [u32; 4]
+    ensures { result ≡ entry_in marks }
 {
     [
-        stands::number_of(k.b),
-        stands::number_of(k.c),
-        stands::number_of(k.e),
-        stands::number_of(k.d),
+        number_of(marks.b),
+        number_of(marks.c),
+        number_of(marks.e),
+        number_of(marks.d),
     ]
 }
 
-// The kind that the record before `s` told, where it told one: `posts` were known before it.
+// The kind that the record before `s` told, where it told one and there is room for it: `posts` were known before it.
+#[tactic(auto, unfolding(crate::specs::Rooms::kept_kind), using(crate::proofs::Kept::storing))]
 fn keep_kind(kinds: &mut [u32], posts: u32, s: State)
     ensures { kinds.new ≡ kept_kind posts s kinds.old }
 {
-    if posts == s.posts {
-        return;
-    }
     let at = posts as usize;
-    if at >= kinds.len() {
-        return;
+    if posts != s.posts && at < kinds.len() {
+        kinds[at] = number_of(s.marks.b);
     }
-    let k = s.marks;
-    kinds[at] = stands::number_of(k.b);
 }
 
-// The event that the record before `s` told, where it told one: `known` were known before it.
+// The event that the record before `s` told, where it told one and there is room for it: `known` were known before it.
+#[tactic(auto, unfolding(crate::specs::Rooms::kept_event), using(crate::proofs::Kept::storing))]
 fn keep_event(events: &mut [[u32; 4]], known: u64, s: State)
     ensures { events.new ≡ kept_event known s events.old }
 {
-    if known == s.events {
-        return;
-    }
     let at = known as usize;
-    if at >= events.len() {
-        return;
+    if known != s.events && at < events.len() {
+        events[at] = entry_of(s.marks);
     }
-    let k = s.marks;
-    events[at] = entry_of(k);
 }
 
 // One byte more. Nothing is told but at the end of a record, which is an LF.
+#[tactic(auto, unfolding(crate::specs::Rooms::fed_next), using(crate::proofs::Told::not_told))]
 fn take(b: u8, s: State, kinds: &mut [u32], events: &mut [[u32; 4]]) -> State
     ensures { fed_at result kinds.new events.new ≡ fed_next (fed_at s kinds.old events.old) b }
 {
     let next = steps::step(s, b);
-    if b != 10 {
+    if b != b'\n' {
         return next;
     }
     keep_kind(kinds, s.posts, next);
@@ -85,35 +80,29 @@ pub fn feed(text: &[u8], s: State, kinds: &mut [u32], events: &mut [[u32; 4]]) -
     ensures { Feeds text.now s result kinds.old kinds.new events.old events.new }
 {
     let mut last = s;
-    let mut i: usize = 0;
-    while i < text.len() {
-        last = take(text[i], last, kinds, events);
-        i += 1;
+    for &b in text {
+        last = take(b, last, kinds, events);
     }
     last
 }
 
-// What a refusal returns.
-fn refuse(number: u32, at: u64) -> Imported
-    ensures { result ≡ refused number at }
-{
-    Imported {
-        number: number,
-        at: at,
-        bytes: 0,
-    }
-}
-
-fn is_start(m: Mode) -> bool
-    ensures { result ≡ is_start m }
-{
-    match m {
-        Mode::Start => true,
-        Mode::Plain => false,
-        Mode::Inside => false,
-        Mode::Closing => false,
-        Mode::AtCr => false,
-        Mode::Broken => false,
+impl From<Result<usize, Refusal>> for Imported {
+    // What import said, in numbers.
+    fn from(imported: Result<usize, Refusal>) -> Imported
+        ensures { result ≡ imported_of imported }
+    {
+        match imported {
+            Ok(bytes) => Imported {
+                number: 0,
+                at: 0,
+                bytes,
+            },
+            Err(refusal) => Imported {
+                number: refusal.number(),
+                at: refusal.record(),
+                bytes: 0,
+            },
+        }
     }
 }
 
@@ -121,27 +110,14 @@ fn is_start(m: Mode) -> bool
 fn is_whole(s: State) -> bool
     ensures { result ≡ is_whole s }
 {
-    let m = s.mode;
-    is_start(m) & (s.place == 0)
-}
-
-fn is_events(g: Stage) -> bool
-    ensures { result ≡ is_events g }
-{
-    match g {
-        Stage::AtHeader => false,
-        Stage::AtStart => false,
-        Stage::AtKinds => false,
-        Stage::AtEvents => true,
-    }
+    matches!(s.mode, Mode::Start) && s.place == 0
 }
 
 // And the table is done.
 fn is_done(s: State) -> bool
     ensures { result ≡ is_done s }
 {
-    let g = s.stage;
-    is_whole(s) & is_events(g)
+    is_whole(s) && matches!(s.stage, Stage::AtEvents)
 }
 
 // The record after those that stand.
@@ -151,8 +127,7 @@ fn record_of(s: State) -> u64
     if s.events > MOST_COUNTED {
         return 0;
     }
-    let g = s.stage;
-    match g {
+    match s.stage {
         Stage::AtHeader => 1,
         Stage::AtStart => 2,
         Stage::AtKinds => 3 + s.posts as u64,
@@ -170,44 +145,42 @@ fn close(s: State, kinds: &mut [u32], events: &mut [[u32; 4]]) -> State
     feed(b"\r\n", s, kinds, events)
 }
 
-// The text is at its end, and this is what was fed of it: writes the sheet that it says, or refuses.
-fn write_fed(s: State, kinds: &[u32], events: &[[u32; 4]], out: &mut [u8]) -> Imported
-    ensures { (result ≡ settle_of (fed_at s kinds.now events.now) (length out.old)) × (out.new ≡ settle_into (fed_at s kinds.now events.now) out.old) }
+// The text is at its end, and this is what was fed of it: writes the sheet that it says, or refuses; how many bytes the sheet has.
+fn write_fed(s: State, kinds: &[u32], events: &[[u32; 4]], out: &mut [u8]) -> Result<usize, Refusal>
+    ensures settled { (imported_of result ≡ settle_of (fed_at s kinds.now events.now) (length out.old)) × (out.new ≡ settle_into (fed_at s kinds.now events.now) out.old) }
+    ensures place { IfErr result (λ refusal. NamesNoBlock refusal) }
 {
     if !is_done(s) {
-        return refuse(WRONG_RECORD, record_of(s));
+        return Err(Refusal::Record(record_of(s)));
     }
-    let room = events.len() as u64;
-    if room < s.events {
-        return refuse(LENGTH_WRONG, 0);
-    }
-    let n = s.posts as usize;
-    if kinds.len() < n {
-        return refuse(relay::NOT_VALID, 0);
-    }
-    let m = s.events as usize;
-    let number = lent_sheet::write(&kinds[..n], s.stamp, &events[..m], out);
-    if number != 0 {
-        return refuse(number, 0);
-    }
-    Imported {
-        number: 0,
-        at: 0,
-        bytes: BLOCK_BYTES + (m + (PER_BLOCK - 1)) / PER_BLOCK * BLOCK_BYTES,
-    }
+    let Some(events) = events.get(..s.events as usize) else {
+        return Err(Refusal::Sheet(sheet::Refusal::Length));
+    };
+    let Some(kinds) = kinds.get(..s.posts as usize) else {
+        return Err(Refusal::Sheet(sheet::Refusal::NotValid));
+    };
+    lent_sheet::write(kinds, s.stamp, events, out)?;
+    Ok(BLOCK_BYTES + events.len().div_ceil(PER_BLOCK) * BLOCK_BYTES)
 }
 
-// The text is at its end: writes the sheet that was fed to the front of `out`, or refuses.
-pub fn settle(s: State, kinds: &mut [u32], events: &mut [[u32; 4]], out: &mut [u8]) -> Imported
-    ensures { Settles (fed_at s kinds.old events.old) result kinds.new events.new out.old out.new }
+// The text is at its end: writes the sheet that was fed to the front of `out`, or refuses; how many bytes the sheet has.
+pub fn settle(
+    s: State,
+    kinds: &mut [u32],
+    events: &mut [[u32; 4]],
+    out: &mut [u8],
+) -> Result<usize, Refusal>
+    ensures settles { Settles (fed_at s kinds.old events.old) (imported_of result) kinds.new events.new out.old out.new }
+    ensures place { IfErr result (λ refusal. NamesNoBlock refusal) }
 {
     let last = close(s, kinds, events);
     write_fed(last, kinds, events, out)
 }
 
-// Writes the sheet that a register's text says to the front of `out`. A refusal leaves `out` as it was.
-pub fn import(text: &[u8], out: &mut [u8]) -> Imported
-    ensures { Imports text.now result out.old out.new }
+// Writes the sheet that a register's text says to the front of `out`; how many bytes it has. A refusal leaves `out` as it was.
+pub fn import(text: &[u8], out: &mut [u8]) -> Result<usize, Refusal>
+    ensures imports { Imports text.now (imported_of result) out.old out.new }
+    ensures place { IfErr result (λ refusal. NamesNoBlock refusal) }
 {
     let mut kinds = [0u32; 32];
     let mut events = [[0u32; 4]; MOST_ENTRIES];

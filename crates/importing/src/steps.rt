@@ -1,6 +1,8 @@
 // One byte of a register's text: the state before it in, the state after it out.
+#![tactic(auto, unfolding(crate::specs::Steps::with_letter, crate::specs::Steps::place_next, crate::specs::Steps::state_next))]
+
 ghost use Rattle.std.specs.Prelude.{◌≡◌};
-ghost use Rattle.importing.specs.Steps.{begun, with_letter, word, is_header, mark_next, moved, pushed, place_next, ended, acted, state_next};
+ghost use Rattle.importing.specs.Steps.{begun, with_letter, word, mark_next, moved, pushed, place_next, ended, acted, state_next};
 ghost use Rattle.register.specs.declared.Act.TheVariants.{Add};
 ghost use Rattle.register.specs.Lexer.{adding};
 
@@ -35,19 +37,18 @@ pub struct State {
 pub fn begin() -> State
     ensures { result ≡ begun }
 {
-    let none = Marks {
-        a: 0,
-        b: 0,
-        c: 0,
-        d: 0,
-        e: 0,
-    };
     State {
         mode: Mode::Start,
         stage: Stage::AtHeader,
         place: 0,
         mark: 0,
-        marks: none,
+        marks: Marks {
+            a: 0,
+            b: 0,
+            c: 0,
+            d: 0,
+            e: 0,
+        },
         stamp: 0,
         posts: 0,
         events: 0,
@@ -59,45 +60,24 @@ fn with_letter(w: &[u8], m: u64, b: u8) -> u64
     ensures { result ≡ with_letter w.now m b }
 {
     let at = m as usize;
-    if at >= w.len() {
-        return WRONG;
+    if at < w.len() && w[at] == b {
+        m + 1
+    } else {
+        WRONG
     }
-    if w[at] != b {
-        return WRONG;
-    }
-    m + 1
 }
 
 // The header's word at this place.
 fn with_header(place: u32, m: u64, b: u8) -> u64
     ensures { result ≡ with_letter (word place) m b }
 {
-    if place == 0 {
-        return with_letter(b"position", m, b);
-    }
-    if place == 1 {
-        return with_letter(b"event", m, b);
-    }
-    if place == 2 {
-        return with_letter(b"post", m, b);
-    }
-    if place == 3 {
-        return with_letter(b"stamp", m, b);
-    }
-    if place == 4 {
-        return with_letter(b"answer", m, b);
-    }
-    WRONG
-}
-
-fn is_header(stage: Stage) -> bool
-    ensures { result ≡ is_header stage }
-{
-    match stage {
-        Stage::AtHeader => true,
-        Stage::AtStart => false,
-        Stage::AtKinds => false,
-        Stage::AtEvents => false,
+    match place {
+        0 => with_letter(b"position", m, b),
+        1 => with_letter(b"event", m, b),
+        2 => with_letter(b"post", m, b),
+        3 => with_letter(b"stamp", m, b),
+        4 => with_letter(b"answer", m, b),
+        _ => WRONG,
     }
 }
 
@@ -105,10 +85,10 @@ fn is_header(stage: Stage) -> bool
 fn mark_next(stage: Stage, place: u32, m: u64, b: u8) -> u64
     ensures { result ≡ mark_next stage place m b }
 {
-    if is_header(stage) {
-        return with_header(place, m, b);
+    match stage {
+        Stage::AtHeader => with_header(place, m, b),
+        _ => digits::with_digit(m, b),
     }
-    digits::with_digit(m, b)
 }
 
 // In quotes or not, where a byte was added.
@@ -117,28 +97,7 @@ fn mode_of(m: Mode) -> Mode
 {
     match m {
         Mode::Inside => Mode::Inside,
-        Mode::Start => Mode::Plain,
-        Mode::Plain => Mode::Plain,
-        Mode::Closing => Mode::Plain,
-        Mode::AtCr => Mode::Plain,
-        Mode::Broken => Mode::Plain,
-    }
-}
-
-// The same records stand, and the next byte stands elsewhere.
-pub fn move_to(s: State, mode: Mode, place: u32, mark: u64, marks: Marks) -> State
-    ensures { result ≡ moved s mode place mark marks }
-{
-    let stage = s.stage;
-    State {
-        mode: mode,
-        stage: stage,
-        place: place,
-        mark: mark,
-        marks: marks,
-        stamp: s.stamp,
-        posts: s.posts,
-        events: s.events,
+        _ => Mode::Plain,
     }
 }
 
@@ -159,42 +118,48 @@ fn push(k: Marks, m: u64) -> Marks
 fn place_next(p: u32) -> u32
     ensures { result ≡ place_next p }
 {
-    if p < 6 {
-        return p + 1;
-    }
-    p
+    if p < 6 { p + 1 } else { p }
 }
 
 // A byte of a field.
 fn add(s: State, b: u8) -> State
     ensures { result ≡ acted Add s b }
 {
-    let mode = s.mode;
-    let stage = s.stage;
-    let k = s.marks;
-    let m = mark_next(stage, s.place, s.mark, b);
-    move_to(s, mode_of(mode), s.place, m, k)
+    State {
+        mode: mode_of(s.mode),
+        mark: mark_next(s.stage, s.place, s.mark, b),
+        ..s
+    }
 }
 
 // A field has ended, and this is the mode after it.
 fn end_field(s: State, mode: Mode) -> State
     ensures { result ≡ ended mode s }
 {
-    let k = s.marks;
-    move_to(s, mode, place_next(s.place), 0, push(k, s.mark))
+    State {
+        mode,
+        place: place_next(s.place),
+        mark: 0,
+        marks: push(s.marks, s.mark),
+        ..s
+    }
 }
 
 // One byte.
 pub fn step(s: State, b: u8) -> State
     ensures { result ≡ state_next s b }
 {
-    let mode = s.mode;
-    let k = s.marks;
-    let act = register::action_of(mode, register::class_of(b));
-    match act {
-        Act::Open => move_to(s, Mode::Inside, s.place, 0, k),
+    match register::action_of(s.mode, register::class_of(b)) {
+        Act::Open => State {
+            mode: Mode::Inside,
+            mark: 0,
+            ..s
+        },
         Act::Add => add(s, b),
-        Act::Close => move_to(s, Mode::Closing, s.place, s.mark, k),
+        Act::Close => State {
+            mode: Mode::Closing,
+            ..s
+        },
         Act::EndField => end_field(s, Mode::Start),
         Act::EndLine => end_field(s, Mode::AtCr),
         Act::EndRecord => stands::end_record(s),

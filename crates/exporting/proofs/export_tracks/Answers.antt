@@ -1,31 +1,23 @@
 -- `exporting::export_tracks` meets its contract: refused as reading either form refuses; of a sheet that is then not one of one track 20; else exported as one of one track.
--- past the first test the sheet is one that is read
-use mathlib.Core.Path.{◌≡◌, sym, ap, ◌∙◌}
-use borrow.Author.Tests.{ne_eqb}
-use Rattle.sheet.specs.Layout.{two_tracks}
-use Rattle.sheet.specs.Reading.{verdict_up_to}
+use Rattle.std.proofs.lemmas.Result.{err_from_is_err_and}
+use mathlib.Core.Path.{sym, ap, ◌∙◌}
 use Rattle.sheet.specs.declared.Verdict.{Verdict}
-use Rattle.exporting.proofs.Forms.{not_two, two_left}
+use Rattle.sheet.proofs.Refusals.{refuses, passes_as}
+use Rattle.exporting.proofs.Forms.{not_two, two_left, one_refused, one_passes}
 use Rattle.exporting.proofs.Tracks.{tracks-unread, tracks_two, tracks_one}
 use Rattle.exporting.proofs.export_tracks.Goals as goal
-use Rattle.exporting.proofs.export_tracks.Goals.{Else-v-ne0}
 
-read : (c : Else-v-ne0) → (verdict_up_to two_tracks c.args.s.now).number ≡ 0
-read c = sym (ap (λ (x : Verdict). x.number) c.test_tracks-v.ensures) ∙ c.if-v-ne0.false
+pub returns-in_err-test_tracks : goal.returns-in_err-test_tracks
+returns-in_err-test_tracks c = let a = c.args in
+    let p = err_from_is_err_and c.from_residual.result c.from_residual.ensures.1 in
+    let v = c.in_err-test_tracks.ensures in
+    rw (p.1, p.2, v) (tracks-unread a.s.now a.out.now (λ z. refuses _ (ap (λ (w : Verdict). w.number) v ∙ z)))
 
-pub returns-then-v-ne0 : goal.returns-then-v-ne0
-returns-then-v-ne0 c = let a = c.args in
-    let v = c.test_tracks-v.ensures in
-    rw (c.refuse.ensures, v) (tracks-unread a.s.now a.out.now (λ z. c.if-v-ne0.true (ap (λ (x : Verdict). x.number) v ∙ z)))
-
-pub returns-then-one-ne0 : goal.returns-then-one-ne0
-returns-then-one-ne0 c = let a = c.args in
-    let z = read (goal.at.returns-then-one-ne0 c).Else-v-ne0 in
-    let t = c.test-one.ensures in
-    rw c.refuse-then-one-ne0.ensures (tracks_two a.s.now a.out.now z (two_left a.s.now z (ne_eqb _ 0 (λ y. c.if-one-ne0.true (ap (λ (x : Verdict). x.number) t ∙ y)))))
+pub returns-then-is_err : goal.returns-then-is_err
+returns-then-is_err c = let a = c.args in
+    let z = passes_as _ c.in_ok-test_tracks.ensures in
+    tracks_two a.s.now a.out.now z (two_left a.s.now z (one_refused a.s.now c.test.result c.test.ensures (sym c.is_err.ensures.value ∙ c.if-is_err.true)))
 
 pub returns : goal.returns
 returns c = let a = c.args in
-    let t = c.test-one.ensures in
-    let one = sym (ap (λ (x : Verdict). x.number) t) ∙ c.if-one-ne0.false in
-    tracks_one a.s.now a.out.now (read (goal.at.returns c).Else-v-ne0) _ _ (not_two a.s.now one) c.export.ensures
+    tracks_one a.s.now a.out.now (passes_as _ c.in_ok-test_tracks.ensures) _ _ (not_two a.s.now (one_passes a.s.now c.test.result c.test.ensures (sym c.is_err.ensures.value ∙ c.if-is_err.false))) c.export.ensures

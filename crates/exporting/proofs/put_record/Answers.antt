@@ -6,7 +6,7 @@ use Rattle.digits.proofs.Stores.{put_then, put_byte, put_length}
 use Rattle.register.specs.Texts.{comma, cr, lf}
 use Rattle.exporting.specs.declared.Fields.{Fields}
 use Rattle.exporting.specs.Fields.{ended, text_of}
-use Rattle.exporting.proofs.Marks.{ended-long, text-long}
+use Rattle.exporting.proofs.Marks.{ended_long, text_long}
 use Rattle.exporting.proofs.put_record.Goals as goal
 use Rattle.exporting.proofs.put_record.Goals.{After-put_field-a, After-put_field-b, After-put_field-c, After-put_field-d, After-put_field-e}
 
@@ -33,22 +33,22 @@ room d out t u k r p h = omega (arith, p.0, put_length d out t k r p (omega arit
 -- all of them fit
 module _ (f : Fields) (at n : ℕ) (h : at + length (text_of f) ≤ n) where
   fits_one : at + length (one f) ≤ n
-  fits_one = rw ended-long (omega (arith, h, text-long f))
+  fits_one = rw ended_long (omega (arith, h, text_long f))
 
   fits_two : at + length (one f) + length (ended f.event comma) ≤ n
-  fits_two = simp (length-append, ended-long) (omega (arith, h, text-long f))
+  fits_two = simp (length-append, ended_long) (omega (arith, h, text_long f))
 
   fits_three : at + length (two f) + length (ended f.post comma) ≤ n
-  fits_three = simp (length-append, ended-long) (omega (arith, h, text-long f))
+  fits_three = simp (length-append, ended_long) (omega (arith, h, text_long f))
 
   fits_four : at + length (three f) + length (ended f.stamp comma) ≤ n
-  fits_four = simp (length-append, ended-long) (omega (arith, h, text-long f))
+  fits_four = simp (length-append, ended_long) (omega (arith, h, text_long f))
 
   fits_five : at + length (four f) + length (ended f.answer cr) ≤ n
-  fits_five = simp (length-append, ended-long) (omega (arith, h, text-long f))
+  fits_five = simp (length-append, ended_long) (omega (arith, h, text_long f))
 
   fits_all : at + length (five f) + 1 ≤ n
-  fits_all = simp (length-append, ended-long) (omega (arith, h, text-long f))
+  fits_all = simp (length-append, ended_long) (omega (arith, h, text_long f))
 
 -- what stands after each call
 first : (c : After-put_field-a) → Put (one c.args.f) c.args.at c.put_field-a.result c.args.out.now c.put_field-a.new.out
