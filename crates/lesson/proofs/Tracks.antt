@@ -264,7 +264,7 @@ module _ (s : List ℕ) (z : (verdict_up_to two_tracks s).number ≡ 0) (two : (
   unfolding answer_on
   events_say =
       let ws = (worked_tracked t).events in
-      let long = worked-long s z in
+      let long = worked-long (decode_tracked s) in
       rw (marked-long ws t.tracks ∙ long)
       (joined_same (event_text t.form (marked ws t.tracks)) (event_said_on t) (length t.events) (λ i h.
       let track : track_of (event_on t i) ≡ get_or t.tracks i 0 = ap track_of (marked_at t.events t.tracks i h) in

@@ -1,4 +1,4 @@
--- The line of a refusal: what it says, the word "refused" and its space a byte at a time, and the line as the pieces that are put one after the other.
+-- The line of a refusal: what it says, the word "refused" and its space, and the line as the pieces that are put one after the other.
 -- Assumes nothing.
 use Prim.Native.Nat.{ℕ, ◌≤◌}
 use mathlib.Core.Path.{◌≡◌, refl}
@@ -6,13 +6,12 @@ use mathlib.Core.List.{List, [], ◌∷◌, ◌++◌, append_assoc}
 use native.Mathlib.Omega.{arith}
 use borrow.Author.Tests.{ne_eqb}
 use lib.Dec.{eqb}
-use lib.ListN.{length, set, take, length-append}
+use lib.ListN.{length, take, drop, length-append}
 use Rattle.relay.proofs.Truth.{split}
 use Rattle.relay.specs.Choice.{pick}
 use Rattle.sheet.specs.Layout.{upper_bits}
 use Rattle.digits.specs.Digits.{digits}
 use Rattle.digits.specs.Texts.{stored}
-use Rattle.digits.proofs.Stores.{put_one, stored_more}
 use Rattle.listing.specs.Lines.{space, spaced, ended, line, event_named, refused_word, refused_line}
 use Rattle.listing.proofs.Spaces.{part_only}
 
@@ -26,22 +25,13 @@ unfolding refused_line event_named
 prints_others number place position n = rw (ne_eqb number 24 n)
 
 -- ---- how it is put
--- the word "refused" and a space, a byte at a time
+-- the word "refused" and a space
 abbrev pub refused : List ℕ
 refused = refused_word ++ (space ∷ [])
 
-pub refused_put : (d : List ℕ) → 8 ≤ length d → set (set (set (set (set (set (set (set d 0 114) 1 101) 2 102) 3 117) 4 115) 5 101) 6 100) 7 space ≡ stored d 0 refused
-refused_put d h =
-    rw (
-      put_one d 0 114 (omega arith),
-      stored_more d 0 (114 ∷ []) 101 (omega arith),
-      stored_more d 0 (114 ∷ 101 ∷ []) 102 (omega arith),
-      stored_more d 0 (114 ∷ 101 ∷ 102 ∷ []) 117 (omega arith),
-      stored_more d 0 (114 ∷ 101 ∷ 102 ∷ 117 ∷ []) 115 (omega arith),
-      stored_more d 0 (114 ∷ 101 ∷ 102 ∷ 117 ∷ 115 ∷ []) 101 (omega arith),
-      stored_more d 0 (114 ∷ 101 ∷ 102 ∷ 117 ∷ 115 ∷ 101 ∷ []) 100 (omega arith),
-      stored_more d 0 (114 ∷ 101 ∷ 102 ∷ 117 ∷ 115 ∷ 101 ∷ 100 ∷ []) space (omega arith),
-    )
+pub refused_put : (d : List ℕ) → refused ++ drop 8 d ≡ stored d 0 refused
+unfolding stored
+refused_put d = refl
 
 -- the event that is named, as a part of one number
 pub named-part : (n e : ℕ) → take (pick (eqb n upper_bits) 1 0) (e ∷ []) ≡ event_named n e

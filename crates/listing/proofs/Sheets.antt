@@ -1,11 +1,11 @@
 -- The sheet behind a listing: the listing by what becomes of the sheet, and how long its lines of posts are at the end.
 -- Assumes nothing.
 use Prim.Native.Nat.{ℕ, ◌+◌, ◌/◌, ◌≤◌, ◌<◌}
-use mathlib.Core.Path.{◌≡◌, refl}
+use mathlib.Core.Path.{◌≡◌, refl, sym}
 use mathlib.Core.Bool.{false}
 use mathlib.Core.List.{List}
 use native.Mathlib.Omega.{arith}
-use borrow.Author.Tests.{eq-eqb, le-leb, lt-ltb, le-ltb}
+use borrow.Author.Tests.{eq-eqb, ne_eqb, le-leb, lt-ltb, le-ltb}
 use lib.Dec.{eqb}
 use lib.ListN.{length}
 use Rattle.relay.proofs.Truth.{and_facts}
@@ -14,7 +14,10 @@ use Rattle.row.proofs.Held.{held-line}
 use Rattle.row.specs.Row.{row_of, line_of}
 use Rattle.row.specs.declared.Row.{Row}
 use Rattle.sheet.specs.Layout.{per_block, two_tracks, contents_wrong}
-use Rattle.sheet.specs.Reading.{form_ok, table_fits, verdict_up_to, decode, decode_tracked}
+use Rattle.sheet.proofs.Refusals.{refuses}
+use Rattle.sheet.specs.Refusals.{verdict_of_refusal}
+use Rattle.sheet.specs.declared.refusal.Refusal.{Refusal}
+use Rattle.sheet.specs.Reading.{form_ok, table_fits, verdict, verdict_up_to, decode, decode_tracked}
 use Rattle.sheet.specs.Sheet.{Tracked, circuit_of}
 use Rattle.working.proofs.Both.{now-few}
 use Rattle.working.proofs.WorksTracks.{said_start}
@@ -37,10 +40,10 @@ module _ (s : List ℕ) where
   abbrev t : Tracked
   t = decode_tracked s
 
-  -- ---- refused as reading refuses
-  pub listing-unread : eqb (verdict_up_to two_tracks s).number 0 ≡ false → listing_of s ≡ refused_line (verdict_up_to two_tracks s).number (verdict_up_to two_tracks s).block (verdict_up_to two_tracks s).position
-  unfolding listing_of work_verdict_up_to
-  listing-unread h = let e : answer_to s ≡ verdict_up_to two_tracks s = rw h refl in rw (e, h) refl
+  -- ---- the answer to it: refused as reading refuses
+  pub answer-unread : eqb (verdict_up_to two_tracks s).number 0 ≡ false → answer_to s ≡ verdict_up_to two_tracks s
+  unfolding work_verdict_up_to
+  answer-unread h = rw h refl
 
   module _ (z : (verdict_up_to two_tracks s).number ≡ 0) where
     -- the events are the same in either form
@@ -48,15 +51,15 @@ module _ (s : List ℕ) where
     unfolding decode decode_tracked
     same = refl
 
-    -- ---- refused for an answer
-    pub listing-answered : first_answered t.events < length t.events → listing_of s ≡ refused_line contents_wrong (1 + first_answered t.events / per_block) 0
-    unfolding listing_of work_verdict_up_to
-    listing-answered h = rw (same, eq-eqb (verdict_up_to two_tracks s).number 0 z, lt-ltb _ _ h) refl
+    -- refused for an answer
+    pub answer-answered : first_answered t.events < length t.events → answer_to s ≡ verdict contents_wrong (1 + first_answered t.events / per_block)
+    unfolding work_verdict_up_to
+    answer-answered h = rw (same, eq-eqb (verdict_up_to two_tracks s).number 0 z, lt-ltb _ _ h) refl
 
-    -- ---- worked
-    pub listing-worked : length t.events ≤ first_answered t.events → listing_of s ≡ lines_of t
-    unfolding listing_of work_verdict_up_to
-    listing-worked h = rw (same, eq-eqb (verdict_up_to two_tracks s).number 0 z, le-ltb _ _ h, le-leb (length s) (length s) (omega arith)) refl
+    -- worked
+    pub answer-worked : length t.events ≤ first_answered t.events → answer_to s ≡ verdict 0 0
+    unfolding work_verdict_up_to
+    answer-worked h = rw (same, eq-eqb (verdict_up_to two_tracks s).number 0 z, le-ltb _ _ h, le-leb (length s) (length s) (omega arith)) refl
 
     ends : (length (end_of t).first ≤ 32) × (length (end_of t).second ≤ 32)
     ends = now-few t.form t.table t.stamp ((and_facts (form_ok two_tracks t.form) (table_fits t.form t.table)).0 (said_start s z)).1 (circuit_of t.table) (marked t.events t.tracks)
@@ -75,3 +78,18 @@ module _ (s : List ℕ) where
 
     pub holds_second : (r : Row) → r ≡ row_of (end_of t).second → Holds r (end_of t).second
     holds_second = holds (end_of t).second ends.1
+
+-- ---- the listing by that answer
+module _ (s : List ℕ) where
+  pub lines-listed : verdict 0 0 ≡ answer_to s → lines_of (decode_tracked s) ≡ listing_of s
+  unfolding listing_of
+  lines-listed e = rw (← e) refl
+
+  pub listing-worked : (z : (verdict_up_to two_tracks s).number ≡ 0) → length (decode_tracked s).events ≤ first_answered (decode_tracked s).events
+      → listing_of s ≡ lines_of (decode_tracked s)
+  listing-worked z h = sym (lines-listed (sym (answer-worked s z h)))
+
+  pub refusal-listed : (r : Refusal) → verdict_of_refusal r ≡ answer_to s
+      → refused_line (verdict_of_refusal r).number (verdict_of_refusal r).block (verdict_of_refusal r).position ≡ listing_of s
+  unfolding listing_of
+  refusal-listed r e = rw (← e, ne_eqb (verdict_of_refusal r).number 0 (refuses r)) refl

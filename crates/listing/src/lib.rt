@@ -2,17 +2,21 @@
 
 #![tactic(auto)]
 
-ghost use Rattle.std.specs.Prelude.{◌+◌, ◌*◌, ◌≤◌, ◌≡◌, eqb, length};
+ghost use Rattle.std.specs.Prelude.{MatchResult, ◌+◌, ◌*◌, ◌≤◌, ◌≡◌, eqb, length};
 ghost use Rattle.relay.specs.Choice.{pick};
 ghost use Rattle.row.specs.Row.{line_of};
 ghost use Rattle.sheet.specs.Layout.{two_tracks, upper_bits};
 ghost use Rattle.listing.specs.Lines.{spaced, ended, track_named, event_line, section_line, refused_line, Lined};
-ghost use Rattle.listing.specs.Listing.{event_lines, section_lines, listing_of};
+ghost use Rattle.listing.specs.Listing.{event_lines, section_lines, lines_of, answer_to, listing_of};
+ghost use Rattle.sheet.specs.Reading.{decode_tracked};
+ghost use Rattle.sheet.specs.Refusals.{verdict_code};
 ghost use Rattle.working.specs.Run.{marked};
 ghost use Rattle.digits.specs.Texts.{Put};
 
 use row::Row;
-use sheet::layout::{CONTENTS_WRONG, MOST_ENTRIES, MOST_TABLE, PER_BLOCK, TWO_TRACKS, UPPER_BITS};
+use sheet::layout::{MOST_ENTRIES, MOST_TABLE, PER_BLOCK, TWO_TRACKS, UPPER_BITS};
+use sheet::{Refusal, Verdict};
+use tracks::Track;
 
 // Room for any line.
 pub const LINE: usize = 128;
@@ -27,11 +31,9 @@ fn put_spaced(out: &mut [u8], at: usize, ns: &[u32]) -> usize
     ensures short { result ≤ at + length ns.now * 11 }
 {
     let mut p = at;
-    let mut i: usize = 0;
-    while i < ns.len() {
-        out[p] = 32;
+    for i in 0..ns.len() {
+        out[p] = b' ';
         p = digits::put_number(out, p + 1, ns[i] as u64);
-        i += 1;
     }
     p
 }
@@ -43,7 +45,7 @@ fn put_rest(out: &mut [u8], at: usize, ns: &[u32]) -> usize
     ensures short { result ≤ at + length ns.now * 11 + 1 }
 {
     let p = put_spaced(out, at, ns);
-    out[p] = 10;
+    out[p] = b'\n';
     p + 1
 }
 
@@ -81,7 +83,7 @@ fn put_section(out: &mut [u8], at: usize, numbers: [u32; 10], tracks: u32, track
     ensures put { Put (section_line numbers (track_named tracks track)) at result out.old out.new }
     ensures short { result ≤ at + 128 }
 {
-    out[at] = 83;
+    out[at] = b'S';
     let p = put_spaced(out, at + 1, &numbers);
     let ns = [track];
     let k = tracks_named(tracks);
@@ -100,16 +102,9 @@ fn put_refused(out: &mut [u8], number: u32, place: u64, position: u32) -> usize
     requires { 128 ≤ length out.old }
     ensures { Lined (refused_line number place position) result out.old out.new }
 {
-    out[0] = 114;
-    out[1] = 101;
-    out[2] = 102;
-    out[3] = 117;
-    out[4] = 115;
-    out[5] = 101;
-    out[6] = 100;
-    out[7] = 32;
+    out[..8].copy_from_slice(b"refused ");
     let p = digits::put_number(out, 8, number as u64);
-    out[p] = 32;
+    out[p] = b' ';
     let q = digits::put_number(out, p + 1, place);
     let ns = [position];
     let k = events_named(number);
@@ -122,15 +117,11 @@ fn put_events(out: &mut [u8], tracks: u32, events: &[[u32; 4]], on: &[u32]) -> u
     ensures put { Lined (event_lines tracks 1 (marked events.now on.now)) result out.old out.new }
     ensures short { result ≤ length events.now * 128 }
 {
-    let n = events.len() as u32;
     let mut p: usize = 0;
-    let mut i: usize = 0;
-    let mut position: u32 = 1;
-    while position <= n {
+    for i in 0..events.len() {
         let e = events[i];
+        let position = i as u32 + 1;
         p = put_event(out, p, position, e[0], e[1], e[2], tracks, on[i]);
-        i += 1;
-        position += 1;
     }
     p
 }
@@ -141,16 +132,10 @@ fn put_sections(out: &mut [u8], at: usize, tracks: u32, track: u32, row: Row) ->
     ensures put { Put (section_lines (track_named tracks track) 0 (line_of row)) at result out.old out.new }
     ensures short { result ≤ at + 31 * 128 }
 {
-    let posts = row.posts;
-    let n = row.n;
     let mut p = at;
-    let mut i: usize = 0;
-    let mut j: usize = 1;
-    while j < n {
-        let numbers = working::section(i as u32, posts[i], posts[j]);
+    for j in 1..row.n {
+        let numbers = working::section((j - 1) as u32, row.posts[j - 1], row.posts[j]);
         p = put_section(out, p, numbers, tracks, track);
-        i = j;
-        j += 1;
     }
     p
 }
@@ -184,28 +169,46 @@ pub fn refused_line(out: &mut [u8; LINE], number: u32, place: u64, position: u32
     put_refused(out, number, place, position)
 }
 
-// Works the events of a sheet of one track or of two and puts its listing at the front of the page; how long it is.
-pub fn list(s: &[u8], page: &mut [u8; PAGE]) -> usize
-    ensures { Lined (listing_of s.now) result page.old page.new }
+// Works the events of a sheet of one track or of two and puts the lines of its listing at the front of the page; how long they are. A refusal leaves the page as it was.
+fn list_worked(s: &[u8], page: &mut [u8; PAGE]) -> Result<usize, Refusal>
+    ensures refused { verdict_code result ≡ answer_to s.now }
+    ensures listed { MatchResult result (λ n. Lined (lines_of (decode_tracked s.now)) n page.old page.new) (λ _. page.new ≡ page.old) }
 {
     let mut table = [0u32; MOST_TABLE];
     let mut events = [[0u32; 4]; MOST_ENTRIES];
     let mut on = [0u32; MOST_ENTRIES];
-    let found = lent_sheet::read_tracks(s, &mut table, &mut events, &mut on);
-    if found.number != 0 {
-        return put_refused(page, found.number, found.block as u64, found.position);
+    let header = lent_sheet::read_tracks(s, &mut table, &mut events, &mut on)?;
+    let k = lent_sheet::table_words(header.tracks, header.posts);
+    let m = header.events as usize;
+    if let Some(i) = working::first_answered(&events[..m]) {
+        return Err(Refusal::Contents(1 + (i / PER_BLOCK) as u32));
     }
-    let tracks = found.tracks;
-    let k = lent_sheet::table_words(tracks, found.posts);
-    let m = found.events as usize;
-    let i = working::first_answered(&events[..m]);
-    if i < m {
-        return put_refused(page, CONTENTS_WRONG, 1 + (i / PER_BLOCK) as u64, 0);
+    let end = working::run(
+        header.tracks,
+        &table[..k],
+        header.stamp,
+        &mut events[..m],
+        &on[..m],
+    )
+    .unwrap();
+    let used = put_events(page, end.tracks, &events[..m], &on[..m]);
+    let p = put_sections(page, used, end.tracks, Track::One as u32, end.first);
+    Ok(put_sections(page, p, end.tracks, Track::Two as u32, end.second))
+}
+
+// Puts the listing of a sheet of one track or of two at the front of the page, its lines or the one of its refusal; how long it is.
+pub fn list(s: &[u8], page: &mut [u8; PAGE]) -> usize
+    ensures { Lined (listing_of s.now) result page.old page.new }
+{
+    match list_worked(s, page) {
+        Ok(n) => n,
+        Err(refusal) => {
+            let Verdict {
+                number,
+                block,
+                position,
+            } = refusal.verdict();
+            put_refused(page, number, block as u64, position)
+        }
     }
-    let ran = working::run_tracks(tracks, &table[..k], found.stamp, &mut events[..m], &on[..m]);
-    let used = put_events(page, tracks, &events[..m], &on[..m]);
-    let first = ran.first;
-    let second = ran.second;
-    let p = put_sections(page, used, tracks, tracks::TRACK_ONE, first);
-    put_sections(page, p, tracks, tracks::TRACK_TWO, second)
 }

@@ -15,7 +15,7 @@ ghost use Rattle.working.specs.Working.{Works, WorksTracks};
 
 use exporting::Exported;
 use importing::Imported;
-use sheet::{Found, FoundTracks, Verdict};
+use sheet::{Found, FoundTracks, Verdict, written_number};
 use why::Since;
 use working::{Worked, WorkedTracks};
 
@@ -32,7 +32,7 @@ pub extern "C" fn desk_check(block: &[u8], number: u32) -> bool
 pub extern "C" fn desk_test(s: &[u8]) -> Verdict
     ensures { result ≡ verdict_of s.now }
 {
-    lent_sheet::test(s)
+    Verdict::from(lent_sheet::test(s))
 }
 
 // Reads a sheet into lent room.
@@ -40,7 +40,7 @@ pub extern "C" fn desk_test(s: &[u8]) -> Verdict
 pub extern "C" fn desk_read(s: &[u8], kinds: &mut [u32], events: &mut [[u32; 4]]) -> Found
     ensures { Reads s.now result kinds.old kinds.new events.old events.new }
 {
-    lent_sheet::read(s, kinds, events)
+    Found::from(lent_sheet::read(s, kinds, events))
 }
 
 // Writes a sheet to the front of `out`.
@@ -48,7 +48,7 @@ pub extern "C" fn desk_read(s: &[u8], kinds: &mut [u32], events: &mut [[u32; 4]]
 pub extern "C" fn desk_write(kinds: &[u32], stamp: u32, events: &[[u32; 4]], out: &mut [u8]) -> u32
     ensures { Writes (record { stamp = stamp; kinds = kinds.now; events = events.now }) result out.old out.new }
 {
-    lent_sheet::write(kinds, stamp, events, out)
+    written_number(lent_sheet::write(kinds, stamp, events, out))
 }
 
 // Works a sheet whole.
@@ -56,7 +56,7 @@ pub extern "C" fn desk_write(kinds: &[u32], stamp: u32, events: &[[u32; 4]], out
 pub extern "C" fn desk_work(s: &[u8], out: &mut [u8]) -> Worked
     ensures { Works s.now result out.old out.new }
 {
-    working::work(s, out)
+    Worked::from(working::work(s, out))
 }
 
 // Since when what a refusal of 8, 9 or 13 says is so.
@@ -64,7 +64,7 @@ pub extern "C" fn desk_work(s: &[u8], out: &mut [u8]) -> Worked
 pub extern "C" fn desk_why(s: &[u8], position: u32) -> Since
     ensures { result ≡ since_of s.now position }
 {
-    why::since_when(s, position)
+    Since::from(why::since_when(s, position))
 }
 
 // Exports a sheet's register as comma-separated text.
@@ -72,7 +72,7 @@ pub extern "C" fn desk_why(s: &[u8], position: u32) -> Since
 pub extern "C" fn desk_export(s: &[u8], out: &mut [u8]) -> Exported
     ensures { Exports s.now result out.old out.new }
 {
-    exporting::export(s, out)
+    Exported::from(exporting::export(s, out))
 }
 
 // Brings a register's text back to a sheet.
@@ -80,7 +80,7 @@ pub extern "C" fn desk_export(s: &[u8], out: &mut [u8]) -> Exported
 pub extern "C" fn desk_import(text: &[u8], out: &mut [u8]) -> Imported
     ensures { Imports text.now result out.old out.new }
 {
-    importing::import(text, out)
+    Imported::from(importing::import(text, out))
 }
 
 // Tests a sheet of one track or of two.
@@ -88,7 +88,7 @@ pub extern "C" fn desk_import(text: &[u8], out: &mut [u8]) -> Imported
 pub extern "C" fn desk_test_tracks(s: &[u8]) -> Verdict
     ensures { result ≡ verdict_up_to two_tracks s.now }
 {
-    lent_sheet::test_tracks(s)
+    Verdict::from(lent_sheet::test_tracks(s))
 }
 
 // Reads a sheet of one track or of two into lent room, for its table, its events and the track of each.
@@ -101,7 +101,7 @@ pub extern "C" fn desk_read_tracks(
 ) -> FoundTracks
     ensures { ReadsTracks s.now result table.old table.new events.old events.new on.old on.new }
 {
-    lent_sheet::read_tracks(s, table, events, on)
+    FoundTracks::from(lent_sheet::read_tracks(s, table, events, on))
 }
 
 // Writes a sheet of so many tracks to the front of `out`.
@@ -116,7 +116,7 @@ pub extern "C" fn desk_write_tracks(
 ) -> u32
     ensures { WritesTracked (record { form = tracks; stamp = stamp; table = table.now; events = events.now; tracks = on.now }) result out.old out.new }
 {
-    lent_sheet::write_tracks(tracks, table, stamp, events, on, out)
+    written_number(lent_sheet::write_tracks(tracks, table, stamp, events, on, out))
 }
 
 // Works a sheet of one track or of two whole.
@@ -124,7 +124,7 @@ pub extern "C" fn desk_write_tracks(
 pub extern "C" fn desk_work_tracks(s: &[u8], out: &mut [u8]) -> WorkedTracks
     ensures { WorksTracks s.now result out.old out.new }
 {
-    working::work_tracks(s, out)
+    WorkedTracks::from(working::work_tracks(s, out))
 }
 
 // Since when what a refusal of 8, 9 or 13 says is so, in a sheet of one track or of two.
@@ -132,5 +132,5 @@ pub extern "C" fn desk_work_tracks(s: &[u8], out: &mut [u8]) -> WorkedTracks
 pub extern "C" fn desk_why_tracks(s: &[u8], position: u32) -> Since
     ensures { result ≡ since_tracks_of s.now position }
 {
-    why::since_when_tracks(s, position)
+    Since::from(why::since_when_tracks(s, position))
 }

@@ -1,6 +1,6 @@
 -- Tell the pupil why: the event since which a refusal of 8, 9 or 13 holds. 02, item 1; of a sheet of two tracks, item 7, it is asked of the chosen event's track.
 -- Assumes nothing.
-use Rattle.std.specs.Prelude.{ℕ, zero, suc, ◌-◌, Bool, true, not, ◌&&◌, ◌||◌, List, [], ◌∷◌, eqb, leb, length, get_or, take}
+use Rattle.std.specs.Prelude.{Result, Ok, Err, ℕ, zero, suc, ◌-◌, Bool, true, not, ◌&&◌, ◌||◌, List, [], ◌∷◌, eqb, leb, length, get_or, take}
 use Rattle.relay.specs.Answers.{lDown, rlDown, rlUp}
 use Rattle.relay.specs.Choice.{pick}
 use Rattle.relay.specs.Posts.{at}
@@ -12,6 +12,9 @@ use Rattle.sheet.specs.Reading.{verdict_up_to, decode_tracked}
 use Rattle.sheet.specs.Sheet.{Tracked, circuit_of}
 use Rattle.tracks.specs.Circuit.{AfterTwo, track_two}
 use Rattle.working.specs.Run.{marked, begun_by, next_by, run_by}
+use Rattle.sheet.specs.Refusals.{verdict_of_refusal}
+use Rattle.why.specs.declared.Refusal.{Refusal}
+use Rattle.why.specs.declared.Refusal.TheVariants.{NoSuchRefusal, Sheet}
 use Rattle.why.specs.declared.Since.{Since}
 
 -- 29, 'when the sheet's answers aren't the ones that working its events gives, or the chosen event has another answer or doesn't exist'
@@ -75,6 +78,13 @@ asked t k = leb 1 k && (leb k (length t.events) && speaks (answer_of (event_at t
 -- ---- the answer
 abbrev pub since : ℕ → ℕ → ℕ → Since
 since number block position = record { number = number; block = block; position = position }
+
+-- an outcome in numbers
+abbrev pub since_told : Result ℕ Refusal → Since
+since_told (Ok position) = since 0 0 position
+since_told (Err NoSuchRefusal) = since no_such_refusal 0 0
+since_told (Err (Sheet refusal)) =
+    since (verdict_of_refusal refusal).number (verdict_of_refusal refusal).block (verdict_of_refusal refusal).position
 
 -- of the events before position k, the one that last made what refusal n says so at post p of a track
 unfoldable pub since_when : Tracked → ℕ → ℕ → ℕ → ℕ → Since

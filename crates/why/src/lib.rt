@@ -8,16 +8,33 @@ ghost use Rattle.relay.specs.Posts.{at};
 ghost use Rattle.row.specs.Row.{line_of};
 ghost use Rattle.sheet.specs.Layout.{two_tracks};
 ghost use Rattle.sheet.specs.Reading.{form_ok, table_fits};
-ghost use Rattle.why.specs.Why.{since_of, since_tracks_of, since_when};
-ghost use Rattle.why.specs.Why.{so as Why·so, speaks as Why·speaks, since as Why·since};
+ghost use Rattle.why.specs.Why.{since_of, since_tracks_of, since_when, since_told, so, speaks};
+ghost use Rattle.why.specs.declared.Refusal.TheVariants.{Sheet};
 
-use row::Row;
+use sheet::Verdict;
 use sheet::layout::{MOST_ENTRIES, MOST_TABLE};
+use tracks::Track;
+use working::Session;
 
-// The sheet's answers aren't the ones that working its events gives, or the chosen event has another answer or doesn't exist.
+// The number of a question with no answer, in the table of the numbers returned.
 pub const NO_SUCH_REFUSAL: u32 = 29;
 
-// A refusal with its block and the event's position in that block, as reading gives them; or 0 and 0 with the position in the sheet, from 1, of the event since which it is so; 0 is the start.
+// Why a question has no answer: the sheet's answers aren't the ones that working its events gives, or the chosen event has another answer or doesn't exist; or the sheet itself is refused.
+#[derive(Clone, Copy, PartialEq, Eq)]
+pub enum Refusal {
+    NoSuchRefusal,
+    Sheet(sheet::Refusal),
+}
+
+impl From<sheet::Refusal> for Refusal {
+    ghost from_gives = { λ refusal r. r ≡ Sheet refusal };
+
+    fn from(refusal: sheet::Refusal) -> Refusal {
+        Refusal::Sheet(refusal)
+    }
+}
+
+// An answer in numbers: a refusal with its block and the event's position in that block, as reading gives them; or 0 and 0 with the position in the sheet, from 1, of the event since which it is so; 0 is the start.
 #[repr(C)]
 #[derive(Clone, Copy)]
 pub struct Since {
@@ -26,159 +43,155 @@ pub struct Since {
     pub position: u32,
 }
 
-// What is returned, by its three numbers.
-fn tell(number: u32, block: u32, position: u32) -> Since
-    ensures { result ≡ Why·since number block position }
-{
-    Since {
-        number: number,
-        block: block,
-        position: position,
+impl From<Result<u32, Refusal>> for Since {
+    // What asking said.
+    fn from(asked: Result<u32, Refusal>) -> Since
+        ensures { result ≡ since_told asked }
+    {
+        let (number, block, position) = match asked {
+            Ok(position) => (0, 0, position),
+            Err(Refusal::NoSuchRefusal) => (NO_SUCH_REFUSAL, 0, 0),
+            Err(Refusal::Sheet(refusal)) => {
+                let Verdict {
+                    number,
+                    block,
+                    position,
+                } = refusal.verdict();
+                (number, block, position)
+            }
+        };
+        Since {
+            number,
+            block,
+            position,
+        }
     }
+}
+
+// What is asked of a run: since when the relay that `answer` speaks of is as it says, at post `place` of `track`, before the event at `position`.
+#[derive(Clone, Copy)]
+struct Question {
+    track: u32,
+    answer: u32,
+    place: u32,
+    position: u32,
 }
 
 // Whether an answer says that L or RL is down, or that RL is up.
+#[tactic(auto, unfolding(crate::specs::Why::speaks), using(relay::proofs::Tests::tests))]
 fn speaks(answer: u32) -> bool
-    ensures { result ≡ Why·speaks answer }
+    ensures { result ≡ speaks answer }
 {
-    if answer == relay::L_DOWN {
-        return true;
-    }
-    if answer == relay::RL_DOWN {
-        return true;
-    }
-    answer == relay::RL_UP
+    matches!(
+        relay::Refusal::decode(answer),
+        Some(relay::Refusal::LDown | relay::Refusal::RlDown | relay::Refusal::RlUp)
+    )
 }
 
 // Whether the relay that such an answer speaks of is as it says.
+#[tactic(auto, unfolding(crate::specs::Why::so, relay::specs::Relays::up), using(relay::proofs::Tests::tests))]
 fn so(answer: u32, word: u32) -> bool
-    ensures { result ≡ Why·so answer word }
+    ensures { result ≡ so answer word }
 {
-    if answer == relay::L_DOWN {
-        return word & relay::L == 0;
+    match relay::Refusal::decode(answer) {
+        Some(relay::Refusal::LDown) => word & relay::L == 0,
+        Some(relay::Refusal::RlDown) => word & relay::RL == 0,
+        _ => word & relay::RL != 0,
     }
-    if answer == relay::RL_DOWN {
-        return word & relay::RL == 0;
-    }
-    word & relay::RL != 0
 }
 
 // The word of a post of a track's line, 0 where that line has no such post.
-fn word_on(track: u32, first: Row, second: Row, place: u32) -> u32
-    ensures { result ≡ (at (pick (eqb track 1) (line_of second) (line_of first)) place).word }
+fn word_on(session: &Session, track: u32, place: u32) -> u32
+    ensures { result ≡ (at (pick (eqb track 1) (line_of session.now.second) (line_of session.now.first)) place).word }
 {
-    if track == tracks::TRACK_TWO {
-        return row::word_at(second, place as usize);
+    match Track::decode(track) {
+        Some(Track::Two) => row::word_at(session.second, place as usize),
+        _ => row::word_at(session.first, place as usize),
     }
-    row::word_at(first, place as usize)
 }
 
 // The event at `here` where it made it so, else the one before.
 fn later(was: bool, is: bool, here: u32, since: u32) -> u32
     ensures { result ≡ pick (not was && is) here since }
 {
-    if was {
-        return since;
-    }
-    if is {
-        return here;
-    }
-    since
+    if !was && is { here } else { since }
 }
 
-// Works all events, each on its track, from the fresh lines and compares each one's answer with what the sheet says; up to the event at `position` it watches the relay that `answer` speaks of at post `place` of `track`.
+// Works all events, each on its track, from the fresh lines and compares each one's answer with what the sheet says; up to the event that is asked about it watches that event's relay.
 fn watch(
     tracks: u32,
     table: &[u32],
     stamp: u32,
     events: &[[u32; 4]],
     on: &[u32],
-    track: u32,
-    answer: u32,
-    place: u32,
-    position: u32,
-) -> Since
-    requires { ((form_ok two_tracks tracks && table_fits tracks table.now) ≡ true) × (1 ≤ position) × (position ≤ length events.now) × (length events.now ≤ 3780) }
-    ensures { result ≡ since_when (record { form = tracks; stamp = stamp; table = table.now; events = events.now; tracks = on.now }) track answer place position }
+    asked: Question,
+) -> Result<u32, Refusal>
+    requires right { (form_ok two_tracks tracks && table_fits tracks table.now) ≡ true }
+    requires there { (1 ≤ asked.position) × (asked.position ≤ length events.now) }
+    requires few { length events.now ≤ 3780 }
+    ensures { since_told result ≡ since_when (record { form = tracks; stamp = stamp; table = table.now; events = events.now; tracks = on.now }) asked.track asked.answer asked.place asked.position }
 {
-    let begun = working::begin(tracks, table, stamp);
-    let circuit = working::circuit_of(table);
-    let told = begun.told;
-    let mut first = begun.first;
-    let mut second = begun.second;
-    let mut s = told.head;
-    let mut was = word_on(track, first, second, place);
+    let mut session = Session::begin(tracks, table, stamp).unwrap();
+    let mut was = word_on(&session, asked.track, asked.place);
     let mut since: u32 = 0;
-    let mut i: usize = 0;
-    let mut here: u32 = 1;
-    while i < events.len() {
+    for i in 0..events.len() {
         let e = events[i];
-        let t = working::track_at(on, i);
-        let done = working::step(tracks, circuit, first, second, s, t, e[0], e[1], e[3]);
-        let got = done.told;
-        if got.answer != e[2] {
-            return tell(NO_SUCH_REFUSAL, 0, 0);
+        let given = session.step(working::track_at(on, i), e[0], e[1], e[3]);
+        if given != e[2] {
+            return Err(Refusal::NoSuchRefusal);
         }
-        first = done.first;
-        second = done.second;
-        s = got.head;
-        let is = word_on(track, first, second, place);
-        let past = position <= here;
-        since = later(so(answer, was) | past, so(answer, is), here, since);
+        let is = word_on(&session, asked.track, asked.place);
+        let here = i as u32 + 1;
+        let past = asked.position <= here;
+        since = later(
+            so(asked.answer, was) | past,
+            so(asked.answer, is),
+            here,
+            since,
+        );
         was = is;
-        i += 1;
-        here += 1;
     }
-    tell(0, 0, since)
+    Ok(since)
 }
 
 // Since when what the refusal of the event at `position` says is so, in a sheet of one track or of two: at the post and on the track that the event names.
-pub fn since_when_tracks(s: &[u8], position: u32) -> Since
-    ensures { result ≡ since_tracks_of s.now position }
+pub fn since_when_tracks(s: &[u8], position: u32) -> Result<u32, Refusal>
+    ensures { since_told result ≡ since_tracks_of s.now position }
 {
     let mut table = [0u32; MOST_TABLE];
     let mut events = [[0u32; 4]; MOST_ENTRIES];
     let mut on = [0u32; MOST_ENTRIES];
-    let found = lent_sheet::read_tracks(s, &mut table, &mut events, &mut on);
-    if found.number != 0 {
-        return tell(found.number, found.block, found.position);
-    }
-    let tracks = found.tracks;
-    let n = lent_sheet::table_words(tracks, found.posts);
-    let m = found.events as usize;
+    let header = lent_sheet::read_tracks(s, &mut table, &mut events, &mut on)?;
+    let n = lent_sheet::table_words(header.tracks, header.posts);
+    let m = header.events as usize;
     let k = position as usize;
-    if k == 0 {
-        return tell(NO_SUCH_REFUSAL, 0, 0);
-    }
-    if m < k {
-        return tell(NO_SUCH_REFUSAL, 0, 0);
+    if k == 0 || m < k {
+        return Err(Refusal::NoSuchRefusal);
     }
     let e = events[k - 1];
-    let t = on[k - 1];
     if !speaks(e[2]) {
-        return tell(NO_SUCH_REFUSAL, 0, 0);
+        return Err(Refusal::NoSuchRefusal);
     }
+    let asked = Question {
+        track: on[k - 1],
+        answer: e[2],
+        place: e[1],
+        position,
+    };
     watch(
-        tracks,
+        header.tracks,
         &table[..n],
-        found.stamp,
+        header.stamp,
         &events[..m],
         &on[..m],
-        t,
-        e[2],
-        e[1],
-        position,
+        asked,
     )
 }
 
 // The same in a sheet of one track.
-pub fn since_when(s: &[u8], position: u32) -> Since
-    ensures { result ≡ since_of s.now position }
+pub fn since_when(s: &[u8], position: u32) -> Result<u32, Refusal>
+    ensures { since_told result ≡ since_of s.now position }
 {
-    let v = lent_sheet::test(s);
-    let number = v.number;
-    if number != 0 {
-        return tell(number, v.block, v.position);
-    }
+    lent_sheet::test(s)?;
     since_when_tracks(s, position)
 }

@@ -13,20 +13,28 @@ use Rattle.relay.proofs.Frame.{length-stays}
 use Rattle.relay.proofs.Fresh.{length-fresh}
 use Rattle.relay.proofs.Truth.{and_facts, split, equal_or_not, least_or_below}
 use Rattle.relay.specs.Kinds.{table_ok}
-use Rattle.relay.specs.Line.{head, fresh_line}
+use Rattle.relay.specs.Answers.{taken}
+use Rattle.relay.specs.Choice.{pick}
+use Rattle.relay.specs.declared.Head.{Head}
+use Rattle.relay.specs.Line.{head, told, fresh_line}
 use Rattle.row.specs.Row.{most, row_of, start_row}
 use Rattle.row.proofs.Held.{held-event}
-use Rattle.row.proofs.Starts.{table-few}
+use Rattle.row.proofs.Starts.{table-few, begins, refuses}
+use Rattle.row.specs.declared.Row.{Row}
+use Rattle.row.specs.declared.Stood.{Stood}
+use Rattle.std.proofs.Common.{Option, Some, None}
+use Rattle.std.proofs.lemmas.Option.{same_Some, none-some}
 use Rattle.rows.specs.Rows.{stood_two, none_stood, start_rows}
 use Rattle.rows.specs.declared.StoodTwo.{StoodTwo}
 use Rattle.rows.proofs.Held.{two_long, held_two}
 use Rattle.sheet.specs.Entry.{entry, number_of, post_of, answer_of, stamp_of}
-use Rattle.sheet.specs.Layout.{two_tracks}
+use Rattle.sheet.specs.Layout.{one_track, two_tracks}
 use Rattle.sheet.specs.Reading.{form_ok, tables_ok, table_fits}
 use Rattle.tracks.specs.Circuit.{AfterTwo, circuit_ok}
 use Rattle.sheet.specs.Sheet.{first_kinds, second_kinds, circuit_of}
 use Rattle.working.specs.Run.{marked, begun_by, next_by, run_by}
-use Rattle.working.specs.Working.{begin_two, begin_by, step_by}
+use Rattle.working.specs.Working.{session, begin_by, step_by}
+use Rattle.working.specs.declared.Session.{Session}
 
 -- ---- the events with their tracks
 pub marked-long : (es : List (List ℕ)) (ts : List ℕ) → length (marked es ts) ≡ length es
@@ -66,12 +74,14 @@ turn false true true = refl
 turn false true false = refl
 turn false false d = refl
 
-pub two_even : (ks : List ℕ) (t : ℕ) → (length ks % 2 ≡ 1 → ⊥) → begin_two ks t ≡ none_stood
-unfolding begin_two tables_ok
-two_even ks t n = rw (ne_eqb (length ks % 2) 1 n) refl
+-- both fresh lines, or none
+unfoldable pub begun_two : List ℕ → ℕ → StoodTwo
+begun_two ks t =
+    pick (tables_ok ks)
+    (stood_two (told taken (head 0 t)) (row_of (fresh_line (first_kinds ks))) (row_of (fresh_line (second_kinds ks)))) none_stood
 
-pub two_odd : (ks : List ℕ) (t : ℕ) → length ks % 2 ≡ 1 → start_rows (circuit_of ks) (first_kinds ks) (second_kinds ks) t ≡ begin_two ks t
-unfolding begin_two tables_ok start_rows
+pub two_odd : (ks : List ℕ) (t : ℕ) → length ks % 2 ≡ 1 → start_rows (circuit_of ks) (first_kinds ks) (second_kinds ks) t ≡ begun_two ks t
+unfolding begun_two tables_ok start_rows
 two_odd ks t e =
     let same : eqb (length (first_kinds ks)) (length (second_kinds ks)) ≡ true = eq-eqb _ _ (first_long ks ∙ sym (second-long ks)) in
     rw (eq-eqb (length ks % 2) 1 e, same, circuit_same (circuit_of ks), and-true (table_ok (second_kinds ks)), turn (leb (circuit_of ks) 1) (table_ok (first_kinds ks)) (table_ok (second_kinds ks))) refl
@@ -82,15 +92,37 @@ two_odd ks t e =
 
 -- by how many tracks the sheet is of
 module _ (ks : List ℕ) (t : ℕ) where
-  pub begin_two_lem : begin_two ks t ≡ begin_by 2 ks t
-  unfolding begin_two begin_by form_ok table_fits begun_by
-  begin_two_lem = refl
+  pub two_even : (length ks % 2 ≡ 1 → ⊥) → None ≡ begin_by two_tracks ks t
+  unfolding begin_by form_ok table_fits tables_ok
+  two_even n = rw (ne_eqb (length ks % 2) 1 n) refl
 
-  pub begin_one : stood_two (start_row ks t).told (start_row ks t).row (row_of []) ≡ begin_by 1 ks t
-  unfolding begin_by form_ok table_fits begun_by start_row
-  begin_one = split (table_ok ks) (λ e. rw e refl) (λ e. rw e refl)
+  module _ (r : StoodTwo) (e : r ≡ begun_two ks t) where
+    pub two_begin : r.told.answer ≡ 0
+        → Some (record { tracks = two_tracks; circuit = circuit_of ks; first = r.first; second = r.second; head = r.told.head }) ≡ begin_by two_tracks ks t
+    unfolding begin_by form_ok table_fits begun_by begun_two
+    two_begin z =
+        split (tables_ok ks)
+        (λ h. rw (rw h at e, h) refl)
+        (λ h. absurd (let o = ap (λ (x : StoodTwo). x.told.answer) (rw h at e) in omega arith))
 
-  pub begin_none : (form : ℕ) → (form ≡ 1 → ⊥) → (form ≡ 2 → ⊥) → none_stood ≡ begin_by form ks t
+    pub two_refuse : (r.told.answer ≡ 0 → ⊥) → None ≡ begin_by two_tracks ks t
+    unfolding begin_by form_ok table_fits begun_two
+    two_refuse n =
+        split (tables_ok ks)
+        (λ h. absurd (n (ap (λ (x : StoodTwo). x.told.answer) (rw h at e))))
+        (λ h. rw h refl)
+
+  module _ (r : Stood) (e : r ≡ start_row ks t) where
+    pub one_begin : r.told.answer ≡ 0
+        → Some (record { tracks = one_track; circuit = circuit_of ks; first = r.row; second = row_of []; head = r.told.head }) ≡ begin_by one_track ks t
+    unfolding begin_by form_ok table_fits begun_by
+    one_begin z = let b = begins ks t r e z in rw (b.row, b.head, b.table) refl
+
+    pub one_refuse : (r.told.answer ≡ 0 → ⊥) → None ≡ begin_by one_track ks t
+    unfolding begin_by form_ok table_fits
+    one_refuse n = rw (refuses ks t r e n).table refl
+
+  pub begin_none : (form : ℕ) → (form ≡ 1 → ⊥) → (form ≡ 2 → ⊥) → None ≡ begin_by form ks t
   unfolding begin_by form_ok
   begin_none form n m =
       let none : (leb 1 form && leb form 2) ≡ false =
@@ -103,37 +135,22 @@ module _ (ks : List ℕ) (t : ℕ) where
       and-false true = refl
       and-false false = refl
 
--- what beginning tells, by its answer
-module _ (form : ℕ) (ks : List ℕ) (t : ℕ) (r : StoodTwo) (e : r ≡ begin_by form ks t) where
-  pub record Begun : Type 0 where
-    pub table : (form_ok two_tracks form && table_fits form ks) ≡ true
-    pub first : r.first ≡ row_of (begun_by form ks t).first
-    pub second : r.second ≡ row_of (begun_by form ks t).second
-    pub head : r.told.head ≡ (begun_by form ks t).told.head
-
-  pub record Refused : Type 0 where
-    pub table : (form_ok two_tracks form && table_fits form ks) ≡ false
-    pub first : r.first ≡ row_of []
-    pub second : r.second ≡ row_of []
-    pub head : r.told.head ≡ head 0 0
-
-  begun-head : (begun_by form ks t).told.head ≡ head 0 t
-  unfolding begun_by
-  begun-head = split (eqb form two_tracks) (λ y. rw y refl) (λ y. rw y refl)
-
-  pub begins : r.told.answer ≡ 0 → Begun
+-- what beginning returns
+module _ (form : ℕ) (ks : List ℕ) (t : ℕ) (r : Option Session) (e : r ≡ begin_by form ks t) where
+  pub begun-some : (z : Session) → r ≡ Some z
+      → ((form_ok two_tracks form && table_fits form ks) ≡ true) × (z ≡ session form (circuit_of ks) (begun_by form ks t))
   unfolding begin_by
-  begins z =
+  begun-some z s =
       split (form_ok two_tracks form && table_fits form ks)
-      (λ h. let f = rw h at e in record { table = h; first = ap (λ (x : StoodTwo). x.first) f; second = ap (λ (x : StoodTwo). x.second) f; head = ap (λ (x : StoodTwo). x.told.head) f ∙ sym begun-head })
-      (λ h. absurd (let o = ap (λ (x : StoodTwo). x.told.answer) (rw h at e) in omega arith))
+      (λ h. (h, same_Some _ _ (sym s ∙ rw h at e)))
+      (λ h. absurd (none-some _ (sym (sym s ∙ rw h at e))))
 
-  pub refuses : (r.told.answer ≡ 0 → ⊥) → Refused
+  pub begun-none : r ≡ None → (form_ok two_tracks form && table_fits form ks) ≡ false
   unfolding begin_by
-  refuses z =
+  begun-none s =
       split (form_ok two_tracks form && table_fits form ks)
-      (λ h. absurd (z (ap (λ (x : StoodTwo). x.told.answer) (rw h at e))))
-      (λ h. let f = rw h at e in record { table = h; first = ap (λ (x : StoodTwo). x.first) f; second = ap (λ (x : StoodTwo). x.second) f; head = ap (λ (x : StoodTwo). x.told.head) f })
+      (λ h. absurd (none-some _ (sym s ∙ rw h at e)))
+      (λ h. h)
 
 -- ---- its lines stay as long as they were
 next_long : (form c : ℕ) (a : AfterTwo) (e : List ℕ) → (length (next_by form c a e).first ≡ length a.first) × (length (next_by form c a e).second ≡ length a.second)
@@ -184,3 +201,19 @@ module _ (form : ℕ) (ks : List ℕ) (t : ℕ) (fits : table_fits form ks ≡ t
       split (eqb form two_tracks)
       (λ y. rw y (held_two now.first now.second now-few.0 now-few.1 c now.told.head (get_or e 4 0) (number_of e) (post_of e) (stamp_of e)))
       (λ y. rw (y, held-event now.first now-few.0 now.told.head (number_of e) (post_of e) (stamp_of e)) refl)
+
+  -- so a step of one that stands there leaves one that stands after it, and returns its answer
+  pub session_next : (z new : Session) (answer : ℕ) (e : List ℕ) → z ≡ session form c now
+      → stood_two (told answer new.head) new.first new.second ≡ step_by z.tracks z.circuit z.first z.second z.head (get_or e 4 0) (number_of e) (post_of e) (stamp_of e)
+      → (new.tracks ≡ z.tracks) × (new.circuit ≡ z.circuit)
+      → (new ≡ session form c (next_by form c now e)) × (answer ≡ (next_by form c now e).told.answer)
+  session_next z new answer e here took kept =
+      let r = rw here at took ∙ rows_next e in
+      let first : new.first ≡ row_of (next_by form c now e).first = ap (λ (x : StoodTwo). x.first) r in
+      let second : new.second ≡ row_of (next_by form c now e).second = ap (λ (x : StoodTwo). x.second) r in
+      let last : new.head ≡ (next_by form c now e).told.head = ap (λ (x : StoodTwo). x.told.head) r in
+      (same new (rw here at kept.0) (rw here at kept.1) first second last, ap (λ (x : StoodTwo). x.told.answer) r)
+    where
+      same : (n : Session) {form c : ℕ} {a b : Row} {h : Head} → n.tracks ≡ form → n.circuit ≡ c → n.first ≡ a → n.second ≡ b → n.head ≡ h
+          → n ≡ record { tracks = form; circuit = c; first = a; second = b; head = h }
+      same n d e f g i = rw (← d, ← e, ← f, ← g, ← i) refl

@@ -11,3 +11,4 @@ pub mod Named
 pub mod Verdicts
 pub mod Paper
 pub mod OneTrack
+pub mod Rooms

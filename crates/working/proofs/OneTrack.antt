@@ -1,24 +1,37 @@
 -- A sheet of one track among those of either form: its table, events and run are those of one track, with no line beside it. And any sheet that does not say 2 is refused as one of one track.
 -- Assumes nothing.
-use Prim.Native.Nat.{ℕ, zero, suc, ◌+◌}
-use mathlib.Core.Path.{◌≡◌, refl, ap, ◌∙◌}
+use Prim.Native.Nat.{ℕ, zero, suc, ◌+◌, ◌<◌}
+use mathlib.Core.Path.{◌≡◌, refl, sym, ap, ◌∙◌}
 use mathlib.Core.List.{List, [], ◌∷◌}
 use native.Mathlib.Omega.{arith}
-use lib.ListN.{take, drop}
+use lib.Dec.{eqb}
+use lib.ListN.{length, get_or, take, drop, replicate, length-replicate, get_or-replicate}
+use lib.Seq.{ext_get_or}
+use Rattle.std.proofs.Common.{Some, None, Result, Ok, Err}
+use Rattle.relay.proofs.Truth.{split}
+use Rattle.relay.specs.Choice.{pick}
+use Rattle.relay.specs.Kinds.{table_ok}
 use Rattle.relay.specs.Line.{After}
 use Rattle.relay.specs.declared.Post.{Post}
-use Rattle.sheet.proofs.Forms.{same_reading}
-use Rattle.sheet.proofs.Rooms.{form_one}
+use Rattle.sheet.proofs.Forms.{same_reading, on-track}
+use Rattle.sheet.proofs.Rooms.{form_one, events-long}
 use Rattle.sheet.proofs.Table.{words_one}
-use Rattle.sheet.proofs.TripRead.{form_is}
+use Rattle.sheet.proofs.TripRead.{form_is, tracks-long}
+use Rattle.sheet.proofs.TripWritten.{same_sheet}
 use Rattle.sheet.specs.Check.{word}
 use Rattle.sheet.specs.Layout.{one_track, two_tracks}
-use Rattle.sheet.specs.Reading.{form_in, verdict_of, decode, decode_tracked}
-use Rattle.sheet.specs.Sheet.{circuit_of}
+use Rattle.sheet.specs.Reading.{form_ok, table_fits, form_in, verdict_of, decode, decode_tracked}
+use Rattle.sheet.specs.Sheet.{Sheet, circuit_of, of_one, encode}
 use Rattle.sheet.specs.Words.{tab}
-use Rattle.tracks.specs.Circuit.{beside}
-use Rattle.working.specs.Run.{begun, next, run, answered, answered_by, marked, begun_by, next_by, run_by, answers_by}
-use Rattle.working.specs.Working.{worked, end_of, worked_tracked, work_verdict, work_verdict_up_to}
+use Rattle.sheet.specs.declared.refusal.Refusal.{Refusal}
+use Rattle.row.specs.Row.{row_of}
+use Rattle.tracks.specs.Circuit.{AfterTwo, beside}
+use Rattle.working.proofs.Steps.{answered-long}
+use Rattle.working.specs.Run.{begun, next, run, answered_by, answered, marked, begun_by, next_by, run_by, answers_by}
+use Rattle.working.specs.Working.{session, ran_by, ran_events_by, worked_of, worked_tracks_of, work_of, work_tracks_of, worked_bytes, worked_tracks_bytes, Works, WorksTracks, worked, end_of, worked_tracked, work_verdict, work_verdict_up_to}
+use Rattle.working.specs.declared.Session.{Session}
+use Rattle.working.specs.declared.Worked.{Worked}
+use Rattle.working.specs.declared.WorkedTracks.{WorkedTracks}
 
 -- ---- the run of one track, beside a line that stays
 pub one_run : (c : ℕ) (a : After) (k : List Post) (es : List (List ℕ)) (ts : List ℕ) (i : ℕ)
@@ -73,3 +86,63 @@ module _ (s : List ℕ) (z : (verdict_of s).number ≡ 0) where
   worked_one =
       rw (one, table_one, stamp_one, events_one)
       (one_answers (circuit_of (decode s).kinds) (begun (decode s).kinds (decode s).stamp) [] (decode s).events (decode_tracked s).tracks)
+
+-- ---- running a table of one track, whichever track each event names
+module _ (ks : List ℕ) (t : ℕ) (es : List (List ℕ)) (ts : List ℕ) where
+  pub ran_one : ran_by one_track ks t es ts ≡ pick (table_ok ks) (Some (session one_track (circuit_of ks) (beside (run (begun ks t) es) []))) None
+  unfolding ran_by form_ok table_fits begun_by
+  ran_one = rw (one_runs (circuit_of ks) (begun ks t) [] es ts) refl
+
+  pub ran_events_one : ran_events_by one_track ks t es ts ≡ pick (table_ok ks) (answered (begun ks t) es) es
+  unfolding ran_events_by form_ok table_fits begun_by
+  ran_events_one = rw (one_answers (circuit_of ks) (begun ks t) [] es ts) refl
+
+-- ---- working a sheet of one track as one of either form
+-- its worked sheet is the worked sheet of its form
+worked_as : (t : Sheet) → worked_tracked (of_one t) ≡ of_one (worked t)
+unfolding begun_by
+worked_as t =
+    let same : (worked_tracked (of_one t)).events ≡ (worked t).events =
+    one_answers (circuit_of t.kinds) (begun t.kinds t.stamp) [] t.events (replicate (length t.events) 0) in
+    let long = answered-long (begun t.kinds t.stamp) t.events in
+    rw (same, long) refl
+
+end_as : (t : Sheet) → end_of (of_one t) ≡ beside (run (begun t.kinds t.stamp) t.events) []
+unfolding begun_by
+end_as t = one_runs (circuit_of t.kinds) (begun t.kinds t.stamp) [] t.events (replicate (length t.events) 0)
+
+-- what is told of it
+abbrev first_of : WorkedTracks → Worked
+first_of w = record { number = w.number; block = w.block; position = w.position; row = w.first; head = w.head }
+
+abbrev at_end : AfterTwo → Worked
+at_end a = record { number = 0; block = 0; position = 0; row = row_of a.first; head = a.told.head }
+
+told_one : (r : Result Session Refusal) → worked_of r ≡ first_of (worked_tracks_of r)
+told_one (Ok _) = refl
+told_one (Err _) = refl
+
+module _ (s : List ℕ) (z : (verdict_of s).number ≡ 0) where
+  -- its events are all on track 0
+  tracks_one : (decode_tracked s).tracks ≡ replicate (length (decode s).events) 0
+  tracks_one =
+      let n = length (decode s).events in
+      let long : length (decode_tracked s).tracks ≡ n = tracks-long s ∙ sym (events-long s) in
+      ext_get_or 0 (decode_tracked s).tracks (replicate n 0) (long ∙ sym (length-replicate n 0)) (λ i h.
+      let l : i < n = rw long at h in
+      let zero : get_or (decode_tracked s).tracks i 0 ≡ 0 = omega (arith, one s z, on-track one_track (omega arith) s z i) in
+      zero ∙ sym (get_or-replicate n i 0 0 l))
+
+  says_one : decode_tracked s ≡ of_one (decode s)
+  says_one = same_sheet _ _ (one s z) (stamp_one s z) (table_one s z) (events_one s z) tracks_one
+
+  -- the outcome is that of working
+  pub works_one : (out out' : List ℕ) (r : Result Session Refusal) → WorksTracks s (worked_tracks_of r) out out' → Works s (worked_of r) out out'
+  unfolding work_of work_tracks_of worked_bytes worked_tracks_bytes encode
+  works_one out out' r w =
+      let v = same_work s (length out) (λ e. omega (arith, e, form_one s z)) in
+      let told : first_of (work_tracks_of s (length out)) ≡ work_of s (length out) =
+      split (eqb (work_verdict s (length out)).number 0)
+      (λ t. rw (v, t) (ap at_end (end_one s z)))
+      (λ t. rw (v, t) refl) in
+      (told_one r ∙ ap first_of w.0 ∙ told, w.1 ∙ rw (v, says_one, worked_as (decode s)) refl)

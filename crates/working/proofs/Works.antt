@@ -1,7 +1,7 @@
 -- Working a sheet, by its outcomes: refused as reading, refused for an answer, refused for the output, or worked.
 -- Assumes nothing.
 use Prim.Native.Nat.{ℕ, ◌+◌, ◌/◌, ◌≤◌, ◌<◌}
-use mathlib.Core.Path.{◌≡◌, refl, ap, subst, ◌∙◌}
+use mathlib.Core.Path.{◌≡◌, refl}
 use mathlib.Core.Bool.{true, false, ◌&&◌}
 use mathlib.Core.List.{List, [], ◌∷◌, ◌++◌}
 use native.Mathlib.Omega.{arith}
@@ -13,19 +13,18 @@ use Rattle.relay.proofs.Truth.{and_facts}
 use Rattle.relay.specs.Kinds.{table_ok}
 use Rattle.relay.specs.Line.{After}
 use Rattle.row.specs.Row.{row_of}
-use Rattle.sheet.proofs.Rooms.{entries-few, events-long, all_kinds, all_events, table-right, bytes_are}
+use Rattle.sheet.proofs.Rooms.{entries-few, events-long, all_kinds, all_events, table-right}
 use Rattle.sheet.proofs.Fields.{every}
 use Rattle.sheet.proofs.PackingFields.{unpacked-fields}
 use Rattle.sheet.proofs.Tabs.{get_d_tab}
 use Rattle.sheet.specs.Entry.{number_of, post_of, answer_of, stamp_of, in_fields}
 use Rattle.sheet.specs.Layout.{per_block, contents_wrong, room_short, one_track}
 use Rattle.sheet.specs.Reading.{accepted, verdict, verdict_of, entries_in, entry_in, decode}
-use Rattle.sheet.specs.Sheet.{Sheet, encode}
-use Rattle.sheet.specs.Writing.{all_in_fields, bytes_for, write_number, written, Writes}
+use Rattle.sheet.specs.Sheet.{encode}
+use Rattle.sheet.specs.Writing.{all_in_fields}
 use Rattle.sheet.specs.declared.Verdict.{Verdict}
 use Rattle.working.specs.Run.{begun, next, run, answered_by, answered}
-use Rattle.working.specs.Working.{first_answered, worked, refused, work_verdict, work_verdict_up_to, work_of, worked_bytes, Works, ran_of, ran_events}
-use Rattle.working.proofs.Steps.{answered-long}
+use Rattle.working.specs.Working.{first_answered, worked, refused, work_verdict, work_verdict_up_to, work_of, worked_bytes, Works}
 
 module _ (s : List ℕ) where
   -- ---- the outcomes
@@ -84,38 +83,9 @@ fields_kept a (e ∷ es) h =
 pub said-table : (s : List ℕ) → (verdict_of s).number ≡ 0 → table_ok (decode s).kinds ≡ true
 said-table s z = rw (all_kinds s) (table-right s z)
 
-module _ (s : List ℕ) (z : (verdict_of s).number ≡ 0) where
-  -- what a sheet says is in its fields
-  said-fields : all_in_fields (decode s).events ≡ true
-  said-fields = every (decode s).events (λ i h. rw (all_events s, get_d_tab (entry_in s) [] (entries_in s) i (rw (events-long s) at h)) (unpacked-fields _ _))
+-- what a sheet says is in its fields
+pub said-fields : (s : List ℕ) → (verdict_of s).number ≡ 0 → all_in_fields (decode s).events ≡ true
+said-fields s z = every (decode s).events (λ i h. rw (all_events s, get_d_tab (entry_in s) [] (entries_in s) i (rw (events-long s) at h)) (unpacked-fields _ _))
 
-  -- the worked sheet can be written where the sheet itself would fit
-  pub writes-worked : (r : ℕ) (out out' : List ℕ) → length s ≤ length out → Writes (worked (decode s)) r out out' → out' ≡ encode (worked (decode s)) ++ drop (length s) out
-  unfolding write_number written
-  writes-worked r out out' h w =
-      let t = worked (decode s) in
-      let n : length t.events ≡ entries_in s = answered-long _ (decode s).events ∙ events-long s in
-      let size : bytes_for (length t.events) ≡ length s = ap bytes_for n ∙ bytes_are one_track s z in
-      let table : table_ok t.kinds ≡ true = said-table s z in
-      w.1
-      ∙ rw (
-        table,
-        fields_kept (begun (decode s).kinds (decode s).stamp) (decode s).events said-fields,
-        le-leb (length t.events) 3780 (omega (arith, n, entries-few one_track s z)),
-        le-leb (bytes_for (length t.events)) (length out) (omega (arith, size)),
-        size,
-      )
-
--- ---- running a right table
-module _ (ks : List ℕ) (t : ℕ) (es : List (List ℕ)) (h : table_ok ks ≡ true) where
-  pub ran_is : ran_of ks t es ≡ record { number = 0; row = row_of (run (begun ks t) es).line; head = (run (begun ks t) es).told.head }
-  unfolding ran_of
-  ran_is = rw h
-
-  pub ran_events_are : ran_events ks t es ≡ answered (begun ks t) es
-  unfolding ran_events
-  ran_events_are = rw h
-
--- a sheet with these three parts is the worked one
-pub is_worked : (s : List ℕ) (stamp : ℕ) (kinds : List ℕ) (events : List (List ℕ)) → stamp ≡ (decode s).stamp → kinds ≡ (decode s).kinds → events ≡ (worked (decode s)).events → (r : ℕ) (out out' : List ℕ) → Writes (record { stamp = stamp; kinds = kinds; events = events }) r out out' → Writes (worked (decode s)) r out out'
-is_worked s stamp kinds events a b d r out out' w = subst (λ (t : Sheet). Writes t r out out') (rw (a, b, d)) w
+pub said_few : (s : List ℕ) → (verdict_of s).number ≡ 0 → length (decode s).events ≤ 3780
+said_few s z = omega (arith, events-long s, entries-few one_track s z)

@@ -1,33 +1,39 @@
 -- Working a sheet of either form, by its outcomes: refused as reading, refused for an answer, refused for the output, or worked.
 -- Assumes nothing.
 use Prim.Native.Nat.{ℕ, ◌+◌, ◌/◌, ◌≤◌, ◌<◌}
-use mathlib.Core.Path.{◌≡◌, refl, ap, subst, ◌∙◌}
+use mathlib.Core.Path.{◌≡◌, refl, ap, ◌∙◌}
 use mathlib.Core.Bool.{Bool, true, false, not, ◌&&◌}
 use mathlib.Core.List.{List, [], ◌∷◌, ◌++◌}
 use native.Mathlib.Omega.{arith}
-use borrow.Author.Tests.{eq-eqb, ne_eqb, le-leb, lt-leb, lt-ltb, le-ltb, eqb-true, eqb-false}
-use lib.Dec.{eqb, ltb}
+use borrow.Author.Tests.{eq-eqb, ne_eqb, le-leb, lt-leb, lt-ltb, le-ltb, eqb-true, eqb-false, leb-true, leb-false}
+use lib.Dec.{eqb, ltb, leb}
 use lib.ListN.{length, drop}
 use Rattle.relay.proofs.Frame.{answer_is, answer-small}
-use Rattle.relay.proofs.Truth.{and_facts, split}
+use Rattle.relay.proofs.Truth.{and_facts, split, least_or_below}
 use Rattle.relay.specs.Choice.{pick}
 use Rattle.relay.specs.Line.{numbered, answer_of as lineAnswer}
 use Rattle.relay.specs.declared.Head.{Head}
 use Rattle.relay.specs.declared.Post.{Post}
-use Rattle.row.specs.Row.{row_of}
 use Rattle.sheet.proofs.Accepts.{accepted-good}
 use Rattle.sheet.proofs.Rooms.{entries-few, bytes_are}
 use Rattle.sheet.proofs.TripRead.{events-long, said-form, said-table, said-fields, said-tracks}
 use Rattle.sheet.specs.Entry.{number_of, post_of, answer_of, stamp_of, in_fields}
 use Rattle.sheet.specs.Layout.{per_block, contents_wrong, room_short, two_tracks}
-use Rattle.sheet.specs.Reading.{form_ok, table_fits, blocks_in, verdict, verdict_up_to, entries_in, decode, decode_tracked}
+use Rattle.sheet.specs.Reading.{form_ok, table_fits, blocks_in, verdict, verdict_up_to, decode, decode_tracked}
 use Rattle.sheet.specs.Sheet.{Tracked, circuit_of, encode_tracked}
-use Rattle.sheet.specs.Writing.{all_in_fields, tracks_fit, bytes_for, size_number, tracked_number, leaves, WritesTracked}
+use Rattle.sheet.specs.Writing.{all_in_fields, tracks_fit, bytes_for, size_number, tracked_number, leaves, may_start, all_fit}
+use Rattle.sheet.specs.Refusals.{refusal_code}
+use Rattle.sheet.specs.declared.refusal.Refusal.{Refusal}
+use Rattle.sheet.specs.declared.refusal.Refusal.TheVariants.{Contents, RoomShort}
+use Rattle.sheet.proofs.Good.{Good}
+use Rattle.sheet.proofs.Refusals.{refuses, number_is}
+use Rattle.std.proofs.Common.{Some, Result, Ok, Err, IfOk}
+use Rattle.working.specs.declared.Session.{Session}
 use Rattle.sheet.specs.declared.Verdict.{Verdict}
 use Rattle.tracks.specs.Circuit.{AfterTwo, valid_two, met, at_last, nowhere, no_track, answer_on, event_on, event_two}
 use Rattle.tracks.proofs.Kept.{on_cases, two_cases}
 use Rattle.working.specs.Run.{marked, begun_by, next_by, run_by, answered_by, answers_by}
-use Rattle.working.specs.Working.{first_answered, ran_by, ran_events_by, worked_tracked, refused_tracks, end_tracks, work_verdict_up_to, work_tracks_of, worked_tracks_bytes, WorksTracks}
+use Rattle.working.specs.Working.{first_answered, session, outcome, outcome_bytes, worked_tracks_of, end_of, session_at_end, ran_by, ran_events_by, worked_tracked, refused_tracks, end_tracks, work_verdict_up_to, work_tracks_of, worked_tracks_bytes, WorksTracks}
 use Rattle.working.proofs.Along.{said-long}
 use Rattle.working.proofs.Both.{marked-long}
 use Rattle.working.proofs.Steps.{goes_by}
@@ -127,52 +133,107 @@ marked-fields (e ∷ es) ts h =
     let f = (and_facts (ltb (number_of e) 32 && (ltb (post_of e) 64 && ltb (answer_of e) 32)) (all_in_fields es)).0 h in
     rw f.0 (marked-fields es (drop 1 ts) f.1)
 
+-- as many events as before
+pub worked-long : (t : Tracked) → length (worked_tracked t).events ≡ length t.events
+worked-long t = said-long (goes_by t.form (circuit_of t.table)) _ (marked t.events t.tracks) ∙ marked-long t.events t.tracks
+
+-- ---- answering a sheet that reading took: its table is right, and all is in its field
+module _ (t : Tracked) (start : may_start t ≡ true) (fit : all_fit t ≡ true) (few : length t.events ≤ 3780) where
+  -- the worked sheet can be written where the output is long enough
+  worked_number : (m : ℕ) → tracked_number (worked_tracked t) m ≡ pick (not (leb (bytes_for (length t.events)) m)) room_short 0
+  unfolding tracked_number size_number
+  worked_number m =
+      let f = (and_facts (all_in_fields t.events) (tracks_fit t.form (length t.events) t.tracks)).0 fit in
+      let fields : all_in_fields (worked_tracked t).events ≡ true = fields_kept _ _ _ (marked t.events t.tracks) (marked-fields t.events t.tracks f.0) in
+      rw (start, fields, worked-long t, f.1, le-leb (length t.events) 3780 few) refl
+
+  pub outcome_answered : (m i : ℕ) → (i ≡ first_answered t.events) × (first_answered t.events < length t.events) → Err (Contents (1 + i / per_block)) ≡ outcome t m
+  unfolding outcome
+  outcome_answered m i f = rw (f.0, lt-ltb _ _ f.1) refl
+
+  -- and on that refusal the output stays
+  pub left_answered : (out : List ℕ) → first_answered t.events < length t.events → out ≡ outcome_bytes t out
+  unfolding outcome_bytes outcome leaves
+  left_answered out f = rw (lt-ltb _ _ f) refl
+
+  module _ (fresh : length t.events ≤ first_answered t.events) where
+    -- what writing the worked sheet returns is the outcome's
+    pub outcome_number : (m : ℕ) → refusal_code (outcome t m) ≡ tracked_number (worked_tracked t) m
+    unfolding outcome
+    outcome_number m =
+        split (leb (bytes_for (length t.events)) m)
+        (λ h. rw (worked_number m, le-ltb _ _ fresh, h) refl)
+        (λ h. rw (worked_number m, le-ltb _ _ fresh, h) refl)
+
+    pub outcome_left : (out : List ℕ) → leaves (worked_tracked t) (tracked_number (worked_tracked t) (length out)) out ≡ outcome_bytes t out
+    unfolding outcome_bytes
+    outcome_left out = rw (outcome_number (length out)) refl
+
+    -- refused before the events are run where the output is too short
+    pub outcome_short : (m : ℕ) → m < bytes_for (length t.events) → Err RoomShort ≡ outcome t m
+    unfolding outcome
+    outcome_short m h = rw (le-ltb _ _ fresh, lt-leb _ _ h) refl
+
+    pub left_short : (out : List ℕ) → length out < bytes_for (length t.events) → out ≡ outcome_bytes t out
+    unfolding outcome_bytes outcome leaves
+    left_short out h = rw (le-ltb _ _ fresh, lt-leb _ _ h) refl
+
+    -- else it is written
+    pub written : (m : ℕ) → bytes_for (length t.events) ≤ m → (r : Result (Unit {0}) Refusal) → refusal_code r ≡ tracked_number (worked_tracked t) m → ((x : Unit {0}) → r ≡ Ok x → ⊥) → ⊥
+    written m h (Ok x) e n = n x refl
+    written m h (Err r) e n = refuses r (number_is r ∙ e ∙ worked_number m ∙ rw (le-leb _ _ h) refl)
+
+    pub outcome_worked : (m : ℕ) → 0 ≡ tracked_number (worked_tracked t) m → Ok (session t.form (circuit_of t.table) (end_of t)) ≡ outcome t m
+    unfolding outcome
+    outcome_worked m e =
+        split (leb (bytes_for (length t.events)) m)
+        (λ h. rw (le-ltb _ _ fresh, h) refl)
+        (λ h. let n = rw h at (e ∙ worked_number m) in absurd (omega (arith, n)))
+
+-- what is not refused is the session at the end
+pub outcome_ends : (t : Tracked) (m : ℕ) → IfOk (outcome t m) (λ end. end ≡ session_at_end t)
+unfolding outcome
+outcome_ends t m =
+    split (ltb (first_answered t.events) (length t.events))
+    (λ f. rw f tt)
+    (λ f. split (leb (bytes_for (length t.events)) m) (λ h. rw (f, h) refl) (λ h. rw (f, h) tt))
+
 module _ (s : List ℕ) (z : (verdict_up_to two_tracks s).number ≡ 0) where
   abbrev d : Tracked
   d = decode_tracked s
 
-  -- as many events as before
-  pub worked-long : length (worked_tracked d).events ≡ length d.events
-  worked-long = said-long (goes_by d.form (circuit_of d.table)) _ (marked d.events d.tracks) ∙ marked-long d.events d.tracks
+  g : Good two_tracks (blocks_in (length s)) s
+  g = accepted-good two_tracks s z
 
-  pub said_start : (form_ok two_tracks d.form && table_fits d.form d.table) ≡ true
-  said_start =
-      let g = accepted-good two_tracks s z in
-      rw (said-form two_tracks (blocks_in (length s)) s g (omega arith), said-table two_tracks (blocks_in (length s)) s g (omega arith)) refl
+  pub said_start : may_start d ≡ true
+  said_start = rw (said-form two_tracks (blocks_in (length s)) s g (omega arith), said-table two_tracks (blocks_in (length s)) s g (omega arith)) refl
 
-  -- the worked sheet can be written where the sheet itself would fit
-  pub writes-worked : (r : ℕ) (out out' : List ℕ) → length s ≤ length out → WritesTracked (worked_tracked d) r out out' → out' ≡ encode_tracked (worked_tracked d) ++ drop (length s) out
-  unfolding tracked_number size_number leaves
-  writes-worked r out out' h w =
-      let g = accepted-good two_tracks s z in
-      let n : length (worked_tracked d).events ≡ entries_in s = worked-long ∙ events-long s in
-      let size : bytes_for (length (worked_tracked d).events) ≡ length s = ap bytes_for n ∙ bytes_are two_tracks s z in
-      let fields : all_in_fields (worked_tracked d).events ≡ true = fields_kept _ _ _ (marked d.events d.tracks) (marked-fields d.events d.tracks (said-fields two_tracks (blocks_in (length s)) s g (omega arith))) in
-      let tracks : tracks_fit d.form (length (worked_tracked d).events) d.tracks ≡ true = rw worked-long (said-tracks two_tracks (blocks_in (length s)) s g (omega arith)) in
-      let zero : r ≡ 0 =
-      w.0
-      ∙ rw (
-        said_start,
-        fields,
-        tracks,
-        le-leb (length (worked_tracked d).events) 3780 (omega (arith, n, entries-few two_tracks s z)),
-        le-leb (bytes_for (length (worked_tracked d).events)) (length out) (omega (arith, size)),
-      )
-      refl in
-      w.1 ∙ rw (zero, size) refl
+  pub said_fit : all_fit d ≡ true
+  said_fit = rw (said-fields two_tracks (blocks_in (length s)) s g (omega arith), said-tracks two_tracks (blocks_in (length s)) s g (omega arith)) refl
+
+  pub said_few : length d.events ≤ 3780
+  said_few = omega (arith, events-long s, entries-few two_tracks s z)
+
+  pub said_size : bytes_for (length d.events) ≡ length s
+  said_size = ap bytes_for (events-long s) ∙ bytes_are two_tracks s z
+
+  -- the outcome is that of working
+  pub works_as : (out out' : List ℕ) (r : Result Session Refusal) → r ≡ outcome d (length out) → out' ≡ outcome_bytes d out → WorksTracks s (worked_tracks_of r) out out'
+  unfolding outcome outcome_bytes leaves
+  works_as out out' r e w =
+      least_or_below (length d.events) (first_answered d.events)
+      (λ f.
+      split (leb (bytes_for (length d.events)) (length out))
+      (λ h. rw (e, w, le-ltb _ _ f, h, worked-long d, said_size) (works_worked s out z f (leb-true _ _ (rw said_size at h))))
+      (λ h. rw (e, w, le-ltb _ _ f, h) (works_short s out z f (leb-false _ _ (rw said_size at h)))))
+      (λ f. rw (e, w, lt-ltb _ _ f) (works_answered s out z f))
 
 -- ---- running a right table
 module _ (form : ℕ) (ks : List ℕ) (t : ℕ) (es : List (List ℕ)) (ts : List ℕ) (h : (form_ok two_tracks form && table_fits form ks) ≡ true) where
-  pub ran_is : ran_by form ks t es ts ≡ record { number = 0; first = row_of (run_by form (circuit_of ks) (begun_by form ks t) (marked es ts)).first; second = row_of (run_by form (circuit_of ks) (begun_by form ks t) (marked es ts)).second; head = (run_by form (circuit_of ks) (begun_by form ks t) (marked es ts)).told.head }
+  pub ran_is : ran_by form ks t es ts ≡ Some (session form (circuit_of ks) (run_by form (circuit_of ks) (begun_by form ks t) (marked es ts)))
   unfolding ran_by
   ran_is = rw h refl
 
   pub ran_events_are : ran_events_by form ks t es ts ≡ answers_by form (circuit_of ks) (begun_by form ks t) (marked es ts)
   unfolding ran_events_by
   ran_events_are = rw h refl
-
--- a sheet with these five parts is the worked one
-pub is_worked : (d : Tracked) (form stamp : ℕ) (table : List ℕ) (events : List (List ℕ)) (tracks : List ℕ)
-    → form ≡ d.form → stamp ≡ d.stamp → table ≡ d.table → events ≡ (worked_tracked d).events → tracks ≡ d.tracks
-    → (r : ℕ) (out out' : List ℕ) → WritesTracked (record { form = form; stamp = stamp; table = table; events = events; tracks = tracks }) r out out' → WritesTracked (worked_tracked d) r out out'
-is_worked d form stamp table events tracks a b k e o r out out' w = subst (λ (t : Tracked). WritesTracked t r out out') (λ i. record { form = a i; stamp = b i; table = k i; events = e i; tracks = o i }) w

@@ -1,53 +1,39 @@
 -- Working a sheet. 01, 'The event sheet': 'Working a sheet reads it whole first, refuses 20 at the first block with an answer other than 31, needs an output at least as long as the sheet (else 21), then writes the same sheet with answers filled and checks renewed, and changes nothing else.'
 -- Assumes nothing.
-use Rattle.std.specs.Prelude.{ℕ, suc, ◌+◌, ◌/◌, not, ◌&&◌, ◌≡◌, List, [], ◌∷◌, ◌++◌, eqb, leb, ltb, length, drop}
+use Rattle.std.specs.Prelude.{Option, Some, None, Result, Ok, Err, ℕ, suc, ◌+◌, ◌/◌, not, ◌&&◌, ◌≡◌, List, [], ◌∷◌, ◌++◌, eqb, leb, ltb, length, drop}
 use Rattle.relay.specs.Choice.{pick}
-use Rattle.relay.specs.Kinds.{table_ok}
-use Rattle.relay.specs.Line.{head, told, fresh_line}
-use Rattle.relay.specs.Answers.{taken, notValid}
+use Rattle.relay.specs.Line.{head}
 use Rattle.relay.specs.Valid.{h}
 use Rattle.relay.specs.declared.Head.{Head}
 use Rattle.relay.specs.declared.Post.{Post}
 use Rattle.row.specs.Row.{row_of, event_row}
-use Rattle.rows.specs.Rows.{stood_two, none_stood, event_rows}
+use Rattle.rows.specs.Rows.{stood_two, event_rows}
 use Rattle.rows.specs.declared.StoodTwo.{StoodTwo}
 use Rattle.row.specs.declared.Row.{Row}
 use Rattle.sheet.specs.Layout.{per_block, one_track, two_tracks, unanswered, contents_wrong, room_short}
 use Rattle.sheet.specs.Entry.{answer_of}
-use Rattle.sheet.specs.Sheet.{Sheet, Tracked, first_kinds, second_kinds, circuit_of, encode, encode_tracked}
+use Rattle.sheet.specs.Sheet.{Sheet, Tracked, circuit_of, encode, encode_tracked}
 use Rattle.tracks.specs.Circuit.{AfterTwo}
-use Rattle.sheet.specs.Reading.{form_ok, tables_ok, table_fits, verdict_up_to, verdict, decode, decode_tracked}
+use Rattle.sheet.specs.Reading.{form_ok, table_fits, verdict_up_to, verdict, decode, decode_tracked}
+use Rattle.sheet.specs.Refusals.{verdict_of_refusal, refusal_code}
+use Rattle.sheet.specs.Writing.{bytes_for, leaves}
 use Rattle.sheet.specs.declared.Verdict.{Verdict}
+use Rattle.sheet.specs.declared.refusal.Refusal.{Refusal}
+use Rattle.sheet.specs.declared.refusal.Refusal.TheVariants.{Contents, RoomShort}
 use Rattle.working.specs.Run.{begun, run, answered, answered_by, marked, begun_by, run_by, answers_by}
-use Rattle.working.specs.declared.Ran.{Ran}
-use Rattle.working.specs.declared.RanTracks.{RanTracks}
+use Rattle.working.specs.declared.Session.{Session}
 use Rattle.working.specs.declared.Worked.{Worked}
 use Rattle.working.specs.declared.WorkedTracks.{WorkedTracks}
 
--- ---- the events of a table in lent room
--- what is returned: 0, the row and the head at the end; a wrong table gives 1, no row and a head of zeros
-unfoldable pub ran_of : List ℕ → ℕ → List (List ℕ) → Ran
-ran_of ks t es =
-    pick (table_ok ks)
-    (record { number = 0; row = row_of (run (begun ks t) es).line; head = (run (begun ks t) es).told.head })
-    (record { number = notValid; row = row_of []; head = head 0 0 })
+-- ---- a session of a sheet of either form
+-- one that stands at these lines and this head, of so many tracks, c being the circuit
+abbrev pub session : ℕ → ℕ → AfterTwo → Session
+session form c a = record { tracks = form; circuit = c; first = row_of a.first; second = row_of a.second; head = a.told.head }
 
--- the events afterwards: each with its answer, or as they were
-unfoldable pub ran_events : List ℕ → ℕ → List (List ℕ) → List (List ℕ)
-ran_events ks t es = pick (table_ok ks) (answered (begun ks t) es) es
-
--- ---- the same of either form
--- the rows that a session of a table of two tracks begins with
-unfoldable pub begin_two : List ℕ → ℕ → StoodTwo
-begin_two ks t =
-    pick (tables_ok ks)
-    (stood_two (told taken (head 0 t)) (row_of (fresh_line (first_kinds ks))) (row_of (fresh_line (second_kinds ks)))) none_stood
-
--- and one of a sheet of so many tracks
-unfoldable pub begin_by : ℕ → List ℕ → ℕ → StoodTwo
+-- the one that begins from the table of a sheet of so many tracks; none from a wrong table
+unfoldable pub begin_by : ℕ → List ℕ → ℕ → Option Session
 begin_by form ks t =
-    pick (form_ok two_tracks form && table_fits form ks)
-    (stood_two (told taken (head 0 t)) (row_of (begun_by form ks t).first) (row_of (begun_by form ks t).second)) none_stood
+    pick (form_ok two_tracks form && table_fits form ks) (Some (session form (circuit_of ks) (begun_by form ks t))) None
 
 -- one event of it
 unfoldable pub step_by : ℕ → ℕ → Row → Row → Head → ℕ → ℕ → ℕ → ℕ → StoodTwo
@@ -55,17 +41,11 @@ step_by form c a b s track n i t =
     pick (eqb form two_tracks) (event_rows c a b s track n i t)
     (stood_two (event_row a s n i t).told (event_row a s n i t).row b)
 
--- what is returned: 0, both rows and the head at the end; a wrong table gives 1, no row and a head of zeros
-unfoldable pub ran_by : ℕ → List ℕ → ℕ → List (List ℕ) → List ℕ → RanTracks
+-- the session after its events, each on its track; none from a wrong table
+unfoldable pub ran_by : ℕ → List ℕ → ℕ → List (List ℕ) → List ℕ → Option Session
 ran_by form ks t es ts =
     pick (form_ok two_tracks form && table_fits form ks)
-    (record {
-      number = 0;
-      first = row_of (run_by form (circuit_of ks) (begun_by form ks t) (marked es ts)).first;
-      second = row_of (run_by form (circuit_of ks) (begun_by form ks t) (marked es ts)).second;
-      head = (run_by form (circuit_of ks) (begun_by form ks t) (marked es ts)).told.head;
-    })
-    (record { number = notValid; first = row_of []; second = row_of []; head = head 0 0 })
+    (Some (session form (circuit_of ks) (run_by form (circuit_of ks) (begun_by form ks t) (marked es ts)))) None
 
 -- the events afterwards: each with its answer, or as they were
 unfoldable pub ran_events_by : ℕ → List ℕ → ℕ → List (List ℕ) → List ℕ → List (List ℕ)
@@ -106,7 +86,12 @@ work_verdict s m = work_verdict_up_to one_track s m
 abbrev pub refused : Verdict → Worked
 refused v = record { number = v.number; block = v.block; position = v.position; row = row_of []; head = head 0 0 }
 
--- what is returned: of a worked sheet also the row and the head at the end
+-- what an outcome is in numbers: of a worked sheet also the row and the head at the end
+abbrev pub worked_of : Result Session Refusal → Worked
+worked_of (Ok end) = record { number = 0; block = 0; position = 0; row = end.first; head = end.head }
+worked_of (Err refusal) = refused (verdict_of_refusal refusal)
+
+-- what is returned
 unfoldable pub work_of : List ℕ → ℕ → Worked
 work_of s m =
     pick (eqb (work_verdict s m).number 0)
@@ -133,6 +118,10 @@ Works s r out out' = (r ≡ work_of s (length out)) × (out' ≡ worked_bytes s 
 abbrev pub end_of : Tracked → AfterTwo
 end_of t = run_by t.form (circuit_of t.table) (begun_by t.form t.table t.stamp) (marked t.events t.tracks)
 
+-- the session that stands so
+abbrev pub session_at_end : Tracked → Session
+session_at_end t = session t.form (circuit_of t.table) (end_of t)
+
 -- the sheet with its answers filled in
 abbrev pub worked_tracked : Tracked → Tracked
 worked_tracked t =
@@ -143,6 +132,16 @@ worked_tracked t =
       events = answers_by t.form (circuit_of t.table) (begun_by t.form t.table t.stamp) (marked t.events t.tracks);
       tracks = t.tracks;
     }
+
+-- answering a sheet that was read, with an output of m bytes: 20, then 21, or the session at its end
+unfoldable pub outcome : Tracked → ℕ → Result Session Refusal
+outcome t m =
+    pick (ltb (first_answered t.events) (length t.events)) (Err (Contents (1 + first_answered t.events / per_block)))
+    (pick (not (leb (bytes_for (length t.events)) m)) (Err RoomShort) (Ok (session_at_end t)))
+
+-- the output afterwards: the worked sheet, and past it what was there; on a refusal as it was
+unfoldable pub outcome_bytes : Tracked → List ℕ → List ℕ
+outcome_bytes t out = leaves (worked_tracked t) (refusal_code (outcome t (length out))) out
 
 -- what a refusal returns: 'nothing else'
 abbrev pub refused_tracks : Verdict → WorkedTracks
@@ -161,6 +160,12 @@ end_tracks t =
       second = row_of (end_of t).second;
       head = (end_of t).told.head;
     }
+
+-- what an outcome is in numbers
+abbrev pub worked_tracks_of : Result Session Refusal → WorkedTracks
+worked_tracks_of (Ok end) =
+    record { number = 0; block = 0; position = 0; tracks = end.tracks; first = end.first; second = end.second; head = end.head }
+worked_tracks_of (Err refusal) = refused_tracks (verdict_of_refusal refusal)
 
 unfoldable pub work_tracks_of : List ℕ → ℕ → WorkedTracks
 work_tracks_of s m =

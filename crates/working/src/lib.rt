@@ -2,30 +2,229 @@
 
 #![tactic(auto)]
 
-ghost use Rattle.std.specs.Prelude.{◌≡◌, get_or, []};
+ghost use Rattle.std.specs.Prelude.{IfOk, ◌≡◌, ◌≤◌, ◌&&◌, true, Some, None, get_or, [], length, ltb};
+ghost use Rattle.relay.specs.Choice.{pick};
+ghost use Rattle.relay.specs.Line.{told};
 ghost use Rattle.relay.specs.Valid.{h};
-ghost use Rattle.sheet.specs.Reading.{verdict_at};
+ghost use Rattle.rows.specs.Rows.{stood_two};
+ghost use Rattle.sheet.specs.Layout.{one_track, two_tracks};
+ghost use Rattle.sheet.specs.Reading.{form_ok, table_fits, decode_tracked};
 ghost use Rattle.row.specs.Row.{row_of};
 ghost use Rattle.sheet.specs.Sheet.{circuit_of};
-ghost use Rattle.working.specs.Working.{begin_two, begin_by, step_by, ran_by, ran_events_by, ran_of, ran_events, first_answered, refused, refused_tracks, Works, WorksTracks, section_numbers};
+ghost use Rattle.sheet.specs.Writing.{all_in_fields, tracks_fit, bytes_for};
+ghost use Rattle.working.specs.Working.{begin_by, step_by, ran_by, ran_events_by, first_answered, outcome, outcome_bytes, session_at_end, refused, refused_tracks, worked_of, worked_tracks_of, Works, WorksTracks, section_numbers};
 
 use relay::{Head, Post};
 use row::Row;
-use rows::StoodTwo;
-use sheet::layout::{
-    CONTENTS_WRONG, MOST_ENTRIES, MOST_TABLE, ONE_TRACK, PER_BLOCK, ROOM_SHORT, TWO_TRACKS,
-    UNANSWERED,
-};
+use sheet::layout::{MOST_ENTRIES, MOST_TABLE, ONE_TRACK, PER_BLOCK, TWO_TRACKS, UNANSWERED};
+use sheet::{Refusal, Verdict};
+use tracks::Track;
 
-// What a run returns: 0 or 1, and the row and head at the end.
+// A row of no line.
+#[tactic(auto, unfolding(row::specs::Row::row_of))]
+fn no_row() -> Row
+    ensures { result ≡ row_of [] }
+{
+    Row {
+        posts: [line::blank_post(); 32],
+        n: 0,
+    }
+}
+
+// The circuit of a table of two tracks; 0 where the table is shorter.
+pub fn circuit_of(table: &[u32]) -> u32
+    ensures { result ≡ circuit_of table.now }
+{
+    let i = table.len() / 2 * 2;
+    if i < table.len() { table[i] } else { 0 }
+}
+
+// The track of event `i`, 0 where there is none.
+pub fn track_at(on: &[u32], i: usize) -> u32
+    ensures { result ≡ get_or on.now i 0 }
+{
+    if i < on.len() { on[i] } else { 0 }
+}
+
+// A session of a sheet of so many tracks, as it stands: its circuit, both rows and the head. One of one track has no second row: `second` is a row of no posts then, and no event is taken on it. It has no circuit either: `circuit` is what `circuit_of` finds in its table then, and nothing looks at it.
 #[derive(Clone, Copy)]
-pub struct Ran {
-    pub number: u32,
-    pub row: Row,
+pub struct Session {
+    pub tracks: u32,
+    pub circuit: u32,
+    pub first: Row,
+    pub second: Row,
     pub head: Head,
 }
 
-// What working a sheet returns: a refusal with its block and the event's position in it, or zeros with the row and head at the end.
+impl Session {
+    // The session that begins from a table of one track, if one may.
+    fn begin_one(kinds: &[u32], stamp: u32) -> Option<Session>
+        ensures { result ≡ begin_by one_track kinds.now stamp }
+    {
+        let begun = row::start_row(kinds, stamp);
+        if begun.told.answer != relay::TAKEN {
+            return None;
+        }
+        Some(Session {
+            tracks: ONE_TRACK,
+            circuit: circuit_of(kinds),
+            first: begun.row,
+            second: no_row(),
+            head: begun.told.head,
+        })
+    }
+
+    // The session that begins from a table of two tracks, if one may.
+    fn begin_two(table: &[u32], stamp: u32) -> Option<Session>
+        ensures { result ≡ begin_by two_tracks table.now stamp }
+    {
+        let n = table.len() / 2;
+        if table.len() % 2 != 1 {
+            return None;
+        }
+        let circuit = circuit_of(table);
+        let begun = rows::start_rows(&table[..n], &table[n..n * 2], circuit, stamp);
+        if begun.told.answer != relay::TAKEN {
+            return None;
+        }
+        Some(Session {
+            tracks: TWO_TRACKS,
+            circuit,
+            first: begun.first,
+            second: begun.second,
+            head: begun.told.head,
+        })
+    }
+
+    // The session that begins from the table of a sheet of so many tracks, if one may.
+    #[tactic(auto, using(crate::proofs::Both::begin_none))]
+    pub fn begin(tracks: u32, table: &[u32], stamp: u32) -> Option<Session>
+        ensures { result ≡ begin_by tracks table.now stamp }
+    {
+        match tracks {
+            ONE_TRACK => Session::begin_one(table, stamp),
+            TWO_TRACKS => Session::begin_two(table, stamp),
+            _ => None,
+        }
+    }
+
+    // Takes one event, on its track; what it is answered.
+    #[tactic(auto, unfolding(crate::specs::Working::step_by), using(relay::proofs::Tests::tests))]
+    pub fn step(&mut self, track: u32, number: u32, place: u32, stamp: u32) -> u32
+        ensures stands { stood_two (told result self.new.head) self.new.first self.new.second ≡ step_by self.old.tracks self.old.circuit self.old.first self.old.second self.old.head track number place stamp }
+        ensures keeps { (self.new.tracks ≡ self.old.tracks) × (self.new.circuit ≡ self.old.circuit) }
+    {
+        if self.tracks == TWO_TRACKS {
+            let done = rows::event_rows(
+                self.first,
+                self.second,
+                self.circuit,
+                self.head,
+                track,
+                number,
+                place,
+                stamp,
+            );
+            self.first = done.first;
+            self.second = done.second;
+            self.head = done.told.head;
+            return done.told.answer;
+        }
+        let done = row::event_row(self.first, self.head, number, place, stamp);
+        self.first = done.row;
+        self.head = done.told.head;
+        done.told.answer
+    }
+}
+
+// Takes the events of a sheet of so many tracks, each on its track, from the fresh lines of its table, and fills each one's answer in; the session at their end. From a table that no session begins with it takes none.
+pub fn run(
+    tracks: u32,
+    table: &[u32],
+    stamp: u32,
+    events: &mut [[u32; 4]],
+    on: &[u32],
+) -> Option<Session>
+    ensures { (result ≡ ran_by tracks table.now stamp events.old on.now) × (events.new ≡ ran_events_by tracks table.now stamp events.old on.now) }
+{
+    let mut session = Session::begin(tracks, table, stamp)?;
+    for i in 0..events.len() {
+        let e = events[i];
+        let answer = session.step(track_at(on, i), e[0], e[1], e[3]);
+        events[i] = [e[0], e[1], answer, e[3]];
+    }
+    Some(session)
+}
+
+// The place of the first event that is answered already, if there is one.
+pub fn first_answered(events: &[[u32; 4]]) -> Option<usize>
+    ensures { result ≡ pick (ltb (first_answered events.now) (length events.now)) (Some (first_answered events.now)) None }
+{
+    events.iter().position(|event| event[2] != UNANSWERED)
+}
+
+// Fills in the answers of a sheet of `size` bytes that reading took, and writes it so to the front of `out`: the session at its end. A refusal leaves `out` as it was.
+fn answer(
+    tracks: u32,
+    table: &[u32],
+    stamp: u32,
+    events: &mut [[u32; 4]],
+    on: &[u32],
+    size: usize,
+    out: &mut [u8],
+) -> Result<Session, Refusal>
+    requires starts { (form_ok two_tracks tracks && table_fits tracks table.now) ≡ true }
+    requires fits { (all_in_fields events.old && tracks_fit tracks (length events.old) on.now) ≡ true }
+    requires few { length events.old ≤ 3780 }
+    requires whole { size ≡ bytes_for (length events.old) }
+    ensures returned { result ≡ outcome (record { form = tracks; stamp = stamp; table = table.now; events = events.old; tracks = on.now }) (length out.old) }
+    ensures written { out.new ≡ outcome_bytes (record { form = tracks; stamp = stamp; table = table.now; events = events.old; tracks = on.now }) out.old }
+{
+    if let Some(i) = first_answered(events) {
+        return Err(Refusal::Contents(1 + (i / PER_BLOCK) as u32));
+    }
+    if out.len() < size {
+        return Err(Refusal::RoomShort);
+    }
+    let end = run(tracks, table, stamp, events, on).unwrap();
+    let Ok(()) = lent_sheet::write_tracks(tracks, table, stamp, events, on, out) else {
+        unreachable!()
+    };
+    Ok(end)
+}
+
+// Works a sheet of one track: writes it to the front of `out` with its answers filled in. A refusal leaves `out` as it was.
+pub fn work(s: &[u8], out: &mut [u8]) -> Result<Session, Refusal>
+    ensures worked { Works s.now (worked_of result) out.old out.new }
+    ensures ends { IfOk result (λ end. end ≡ session_at_end (decode_tracked s.now)) }
+{
+    lent_sheet::test(s)?;
+    work_tracks(s, out)
+}
+
+// Works a sheet of one track or of two: writes it to the front of `out` with its answers filled in. A refusal leaves `out` as it was.
+pub fn work_tracks(s: &[u8], out: &mut [u8]) -> Result<Session, Refusal>
+    ensures worked { WorksTracks s.now (worked_tracks_of result) out.old out.new }
+    ensures ends { IfOk result (λ end. end ≡ session_at_end (decode_tracked s.now)) }
+{
+    let mut table = [0u32; MOST_TABLE];
+    let mut events = [[0u32; 4]; MOST_ENTRIES];
+    let mut on = [0u32; MOST_ENTRIES];
+    let header = lent_sheet::read_tracks(s, &mut table, &mut events, &mut on)?;
+    let k = lent_sheet::table_words(header.tracks, header.posts);
+    let m = header.events as usize;
+    answer(
+        header.tracks,
+        &table[..k],
+        header.stamp,
+        &mut events[..m],
+        &on[..m],
+        s.len(),
+        out,
+    )
+}
+
+// What working a sheet returns in numbers: a refusal with its block and the event's position in it, or zeros with the row and head at the end.
 #[repr(C)]
 #[derive(Clone, Copy)]
 pub struct Worked {
@@ -36,260 +235,25 @@ pub struct Worked {
     pub head: Head,
 }
 
-// Takes the events from the fresh line of the table, and fills each one's answer in.
-pub fn run(kinds: &[u32], stamp: u32, events: &mut [[u32; 4]]) -> Ran
-    ensures { (result ≡ ran_of kinds.now stamp events.old) × (events.new ≡ ran_events kinds.now stamp events.old) }
-{
-    let begun = row::start_row(kinds, stamp);
-    let told = begun.told;
-    let mut row = begun.row;
-    let mut s = told.head;
-    if told.answer != 0 {
-        return Ran {
-            number: relay::NOT_VALID,
-            row: row,
-            head: s,
-        };
-    }
-    let mut i: usize = 0;
-    while i < events.len() {
-        let e = events[i];
-        let done = row::event_row(row, s, e[0], e[1], e[3]);
-        let got = done.told;
-        row = done.row;
-        s = got.head;
-        events[i] = [e[0], e[1], got.answer, e[3]];
-        i += 1;
-    }
-    Ran {
-        number: 0,
-        row: row,
-        head: s,
+impl From<Verdict> for Worked {
+    // What a refusal returns.
+    fn from(verdict: Verdict) -> Worked
+        ensures { result ≡ refused verdict }
+    {
+        WorkedTracks::from(verdict).of_one()
     }
 }
 
-// What a run of a sheet of either form returns: 0 or 1, and both rows and the head at the end.
-#[derive(Clone, Copy)]
-pub struct RanTracks {
-    pub number: u32,
-    pub first: Row,
-    pub second: Row,
-    pub head: Head,
-}
-
-// A row of no line.
-fn no_row() -> Row
-    ensures { result ≡ row_of [] }
-{
-    let b = line::blank_post();
-    let posts = [b; 32];
-    Row { posts: posts, n: 0 }
-}
-
-// The circuit of a table of two tracks; 0 where the table is shorter.
-pub fn circuit_of(table: &[u32]) -> u32
-    ensures { result ≡ circuit_of table.now }
-{
-    let i = table.len() / 2 * 2;
-    if i < table.len() {
-        return table[i];
-    }
-    0
-}
-
-// The rows that a session of a table of two tracks begins with, or 1.
-fn begin_two(table: &[u32], stamp: u32) -> StoodTwo
-    ensures { result ≡ begin_two table.now stamp }
-{
-    let n = table.len() / 2;
-    if table.len() % 2 != 1 {
-        let none = no_row();
-        let told = step::gate::tell(relay::NOT_VALID, 0, 0);
-        return StoodTwo {
-            told: told,
-            first: none,
-            second: none,
-        };
-    }
-    rows::start_rows(&table[..n], &table[n..n * 2], circuit_of(table), stamp)
-}
-
-// The rows that a session of a sheet of so many tracks begins with, or 1.
-pub fn begin(tracks: u32, table: &[u32], stamp: u32) -> StoodTwo
-    ensures { result ≡ begin_by tracks table.now stamp }
-{
-    let none = no_row();
-    if tracks == TWO_TRACKS {
-        return begin_two(table, stamp);
-    }
-    if tracks == ONE_TRACK {
-        let begun = row::start_row(table, stamp);
-        let told = begun.told;
-        let row = begun.row;
-        return StoodTwo {
-            told: told,
-            first: row,
-            second: none,
-        };
-    }
-    let told = step::gate::tell(relay::NOT_VALID, 0, 0);
-    StoodTwo {
-        told: told,
-        first: none,
-        second: none,
+impl From<Result<Session, Refusal>> for Worked {
+    // What working a sheet of one track said.
+    fn from(worked: Result<Session, Refusal>) -> Worked
+        ensures { result ≡ worked_of worked }
+    {
+        WorkedTracks::from(worked).of_one()
     }
 }
 
-// One event of a sheet of so many tracks.
-pub fn step(
-    tracks: u32,
-    circuit: u32,
-    first: Row,
-    second: Row,
-    s: Head,
-    track: u32,
-    number: u32,
-    place: u32,
-    stamp: u32,
-) -> StoodTwo
-    ensures { result ≡ step_by tracks circuit first second s track number place stamp }
-{
-    if tracks == TWO_TRACKS {
-        return rows::event_rows(first, second, circuit, s, track, number, place, stamp);
-    }
-    let done = row::event_row(first, s, number, place, stamp);
-    let told = done.told;
-    let row = done.row;
-    StoodTwo {
-        told: told,
-        first: row,
-        second: second,
-    }
-}
-
-// The track of event `i`, 0 where there is none.
-pub fn track_at(on: &[u32], i: usize) -> u32
-    ensures { result ≡ get_or on.now i 0 }
-{
-    if i < on.len() { on[i] } else { 0 }
-}
-
-// Takes the events of a sheet of so many tracks, each on its track, from the fresh lines of the table, and fills each one's answer in.
-pub fn run_tracks(
-    tracks: u32,
-    table: &[u32],
-    stamp: u32,
-    events: &mut [[u32; 4]],
-    on: &[u32],
-) -> RanTracks
-    ensures { (result ≡ ran_by tracks table.now stamp events.old on.now) × (events.new ≡ ran_events_by tracks table.now stamp events.old on.now) }
-{
-    let begun = begin(tracks, table, stamp);
-    let circuit = circuit_of(table);
-    let told = begun.told;
-    let mut first = begun.first;
-    let mut second = begun.second;
-    let mut s = told.head;
-    if told.answer != 0 {
-        return RanTracks {
-            number: relay::NOT_VALID,
-            first: first,
-            second: second,
-            head: s,
-        };
-    }
-    let mut i: usize = 0;
-    while i < events.len() {
-        let e = events[i];
-        let done = step(
-            tracks,
-            circuit,
-            first,
-            second,
-            s,
-            track_at(on, i),
-            e[0],
-            e[1],
-            e[3],
-        );
-        let said = done.told;
-        first = done.first;
-        second = done.second;
-        s = said.head;
-        events[i] = [e[0], e[1], said.answer, e[3]];
-        i += 1;
-    }
-    RanTracks {
-        number: 0,
-        first: first,
-        second: second,
-        head: s,
-    }
-}
-
-// The place of the first event that is answered already, or how many events there are.
-pub fn first_answered(events: &[[u32; 4]]) -> usize
-    ensures { result ≡ first_answered events.now }
-{
-    let mut i: usize = 0;
-    while i < events.len() {
-        let e = events[i];
-        if e[2] != UNANSWERED {
-            return i;
-        }
-        i += 1;
-    }
-    i
-}
-
-// What a refusal of working returns.
-pub fn refuse(number: u32, block: u32, position: u32) -> Worked
-    ensures { result ≡ refused (verdict_at number block position) }
-{
-    let b = line::blank_post();
-    let posts = [b; 32];
-    Worked {
-        number: number,
-        block: block,
-        position: position,
-        row: Row { posts: posts, n: 0 },
-        head: Head { taken: 0, last: 0 },
-    }
-}
-
-// Works a sheet: writes it to the front of `out` with its answers filled in. A refusal leaves `out` as it was.
-pub fn work(s: &[u8], out: &mut [u8]) -> Worked
-    ensures { Works s.now result out.old out.new }
-{
-    let mut kinds = [0u32; 32];
-    let mut events = [[0u32; 4]; MOST_ENTRIES];
-    let found = lent_sheet::read(s, &mut kinds, &mut events);
-    if found.number != 0 {
-        return refuse(found.number, found.block, found.position);
-    }
-    let n = found.posts as usize;
-    let m = found.events as usize;
-    let i = first_answered(&events[..m]);
-    if i < m {
-        return refuse(CONTENTS_WRONG, 1 + (i / PER_BLOCK) as u32, 0);
-    }
-    if out.len() < s.len() {
-        return refuse(ROOM_SHORT, 0, 0);
-    }
-    let ran = run(&kinds[..n], found.stamp, &mut events[..m]);
-    lent_sheet::write(&kinds[..n], found.stamp, &events[..m], out);
-    let row = ran.row;
-    let head = ran.head;
-    Worked {
-        number: 0,
-        block: 0,
-        position: 0,
-        row: row,
-        head: head,
-    }
-}
-
-// What working a sheet of either form returns: a refusal with its block and the event's position in it, or zeros with how many tracks it is of, both rows and the head at the end. A sheet of one track has no second row.
+// What working a sheet of either form returns in numbers: a refusal with its block and the event's position in it, or zeros with how many tracks it is of, both rows and the head at the end. A sheet of one track has no second row.
 #[repr(C)]
 #[derive(Clone, Copy)]
 pub struct WorkedTracks {
@@ -302,80 +266,91 @@ pub struct WorkedTracks {
     pub head: Head,
 }
 
-// What a refusal of it returns.
-pub fn refuse_tracks(number: u32, block: u32, position: u32) -> WorkedTracks
-    ensures { result ≡ refused_tracks (verdict_at number block position) }
-{
-    let none = no_row();
-    WorkedTracks {
-        number: number,
-        block: block,
-        position: position,
-        tracks: 0,
-        first: none,
-        second: none,
-        head: Head { taken: 0, last: 0 },
+impl WorkedTracks {
+    // The same of a sheet of one track.
+    fn of_one(self) -> Worked
+        ensures { result ≡ record { number = self.number; block = self.block; position = self.position; row = self.first; head = self.head } }
+    {
+        let WorkedTracks {
+            number,
+            block,
+            position,
+            first,
+            head,
+            ..
+        } = self;
+        Worked {
+            number,
+            block,
+            position,
+            row: first,
+            head,
+        }
     }
 }
 
-// Works a sheet of one track or of two: writes it to the front of `out` with its answers filled in. A refusal leaves `out` as it was.
-pub fn work_tracks(s: &[u8], out: &mut [u8]) -> WorkedTracks
-    ensures { WorksTracks s.now result out.old out.new }
-{
-    let mut table = [0u32; MOST_TABLE];
-    let mut events = [[0u32; 4]; MOST_ENTRIES];
-    let mut on = [0u32; MOST_ENTRIES];
-    let found = lent_sheet::read_tracks(s, &mut table, &mut events, &mut on);
-    if found.number != 0 {
-        return refuse_tracks(found.number, found.block, found.position);
+impl From<Verdict> for WorkedTracks {
+    // What a refusal returns: beside its number, block and position all is 0.
+    fn from(verdict: Verdict) -> WorkedTracks
+        ensures { result ≡ refused_tracks verdict }
+    {
+        let Verdict {
+            number,
+            block,
+            position,
+        } = verdict;
+        WorkedTracks {
+            number,
+            block,
+            position,
+            tracks: 0,
+            first: no_row(),
+            second: no_row(),
+            head: Head { taken: 0, last: 0 },
+        }
     }
-    let tracks = found.tracks;
-    let k = lent_sheet::table_words(tracks, found.posts);
-    let m = found.events as usize;
-    let i = first_answered(&events[..m]);
-    if i < m {
-        return refuse_tracks(CONTENTS_WRONG, 1 + (i / PER_BLOCK) as u32, 0);
-    }
-    if out.len() < s.len() {
-        return refuse_tracks(ROOM_SHORT, 0, 0);
-    }
-    let ran = run_tracks(tracks, &table[..k], found.stamp, &mut events[..m], &on[..m]);
-    lent_sheet::write_tracks(
-        tracks,
-        &table[..k],
-        found.stamp,
-        &events[..m],
-        &on[..m],
-        out,
-    );
-    let first = ran.first;
-    let second = ran.second;
-    let head = ran.head;
-    WorkedTracks {
-        number: 0,
-        block: 0,
-        position: 0,
-        tracks: tracks,
-        first: first,
-        second: second,
-        head: head,
+}
+
+impl From<Result<Session, Refusal>> for WorkedTracks {
+    // What working a sheet of either form said.
+    fn from(worked: Result<Session, Refusal>) -> WorkedTracks
+        ensures { result ≡ worked_tracks_of worked }
+    {
+        match worked {
+            Ok(
+                Session {
+                    tracks,
+                    first,
+                    second,
+                    head,
+                    ..
+                },
+            ) => WorkedTracks {
+                number: 0,
+                block: 0,
+                position: 0,
+                tracks,
+                first,
+                second,
+                head,
+            },
+            Err(refusal) => WorkedTracks::from(refusal.verdict()),
+        }
     }
 }
 
 // 1 if RL is down, else 0.
+#[tactic(auto, unfolding(relay::specs::Relays::up), using(relay::proofs::Tests::tests))]
 pub fn held(word: u32) -> u32
     ensures { result ≡ h word }
 {
-    if word & relay::RL == 0 {
-        return 1;
-    }
-    0
+    if word & relay::RL == 0 { 1 } else { 0 }
 }
 
 // The numbers of section s, between the posts p and d, in the order of its line.
+#[tactic(auto, unfolding(crate::specs::Working::section_numbers))]
 pub fn section(s: u32, p: Post, d: Post) -> [u32; 10]
     ensures { result ≡ section_numbers s p d }
 {
-    let h = held(p.word);
-    [s, p.a, d.r, p.x, d.q, d.e, p.y, p.v, p.g, h]
+    [s, p.a, d.r, p.x, d.q, d.e, p.y, p.v, p.g, held(p.word)]
 }

@@ -6,7 +6,7 @@ use mathlib.Core.List.{List, [], ◌∷◌, ◌++◌}
 use native.Mathlib.Omega.{arith}
 use borrow.Author.Rules.{rules}
 use lib.Dec.{eqb}
-use lib.ListN.{length, set, take, length-append, length-set}
+use lib.ListN.{length, set, take, drop, length-drop, length-append, length-set}
 use lib.Seq.{length-take-le}
 use Rattle.relay.specs.Choice.{pick}
 use Rattle.sheet.specs.Layout.{upper_bits}
@@ -43,10 +43,10 @@ module _ (d : List ℕ) (long : 128 ≤ length d) (n p e : ℕ) (n_fits : n < 42
   two = (one ++ (space ∷ [])) ++ digits p
 
   abbrev word : List ℕ
-  word = set (set (set (set (set (set (set (set d 0 114) 1 101) 2 102) 3 117) 4 115) 5 101) 6 100) 7 space
+  word = refused ++ drop 8 d
 
   first : (r : ℕ) (o : List ℕ) → Put (digits n) 8 r word o → Put one 0 r d o
-  first r o h = put_then d _ refused 0 8 (refl, refused_put d (omega arith)) (digits n) _ _ (omega (arith, number-long)) h
+  first r o h = put_then d _ refused 0 8 (refl, refused_put d) (digits n) _ _ (omega (arith, number-long)) h
 
   -- where the number ends, and that the bytes are as many as before
   first-ends : (r : ℕ) (o : List ℕ) → Put (digits n) 8 r word o → (r ≤ 18) × (length o ≡ length d)
@@ -70,30 +70,30 @@ module _ (d : List ℕ) (long : 128 ≤ length d) (n p e : ℕ) (n_fits : n < 42
       put_then d _ two 0 _ (second r q o u h g) (ended (event_named n e)) _ _ (omega (arith, fits, rest-long)) (rw (z, named-part n e) at j)
 
 pub put_number-p-requires : goal.put_number-p-requires
-put_number-p-requires c = simp length-set (omega (arith, digits_long c.args.number (omega arith)))
+put_number-p-requires c = rw c.copy_from_slice.ensures.after (simp (length-append, length-drop) (omega (arith, digits_long c.args.number (omega arith))))
 
 pub bounds-out-p : goal.bounds-out-p
 bounds-out-p c = let a = c.args in
-    omega (arith, first-ends a.out.now (omega arith) a.number a.place a.position (omega arith) (omega arith) (omega arith) _ _ c.put_number-p.ensures)
+    omega (arith, first-ends a.out.now (omega arith) a.number a.place a.position (omega arith) (omega arith) (omega arith) _ _ (rw c.copy_from_slice.ensures.after at c.put_number-p.ensures))
 
 pub overflow_add-p : goal.overflow_add-p
 overflow_add-p c = let a = c.args in
-    let f = first-ends a.out.now (omega arith) a.number a.place a.position (omega arith) (omega arith) (omega arith) _ _ c.put_number-p.ensures in
+    let f = first-ends a.out.now (omega arith) a.number a.place a.position (omega arith) (omega arith) (omega arith) _ _ (rw c.copy_from_slice.ensures.after at c.put_number-p.ensures) in
     search rules
 
 pub put_number-q-requires : goal.put_number-q-requires
 put_number-q-requires c = let a = c.args in
-    let f = first-ends a.out.now (omega arith) a.number a.place a.position (omega arith) (omega arith) (omega arith) _ _ c.put_number-p.ensures in
+    let f = first-ends a.out.now (omega arith) a.number a.place a.position (omega arith) (omega arith) (omega arith) _ _ (rw c.copy_from_slice.ensures.after at c.put_number-p.ensures) in
     simp length-set (omega (arith, f, digits-long_64 a.place (omega arith)))
 
 pub put_rest-requires : goal.put_rest-requires
 put_rest-requires c = let a = c.args in
-    let f = second-ends a.out.now (omega arith) a.number a.place a.position (omega arith) (omega arith) (omega arith) _ _ _ _ c.put_number-p.ensures c.put_number-q.ensures in
+    let f = second-ends a.out.now (omega arith) a.number a.place a.position (omega arith) (omega arith) (omega arith) _ _ _ _ (rw c.copy_from_slice.ensures.after at c.put_number-p.ensures) c.put_number-q.ensures in
     let k = named-few a.number _ a.position c.events_named-k.ensures in
     (omega (arith, k), omega (arith, f, k))
 
 pub returns : goal.returns
 returns c = let a = c.args in
-    let w = all a.out.now (omega arith) a.number a.place a.position (omega arith) (omega arith) (omega arith) _ _ _ _ _ _ _ c.put_number-p.ensures c.put_number-q.ensures c.events_named-k.ensures c.put_rest.ensures.put in
+    let w = all a.out.now (omega arith) a.number a.place a.position (omega arith) (omega arith) (omega arith) _ _ _ _ _ _ _ (rw c.copy_from_slice.ensures.after at c.put_number-p.ensures) c.put_number-q.ensures c.events_named-k.ensures c.put_rest.ensures.put in
     let e = refused-pieces a.number a.place a.position in
     (omega (arith, w.0, ap (λ (t : List ℕ). length t) e), w.1 ∙ ap (stored a.out.now 0) e)

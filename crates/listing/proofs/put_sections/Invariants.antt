@@ -10,11 +10,7 @@ use Rattle.listing.proofs.put_sections.Given as goal
 
 abbrev pub invariant-loop-j : goal.invariant-loop-j
 invariant-loop-j l = (l.j ≤ 32)
-    × (l.p ≡ l.at + length (section_lines (track_named l.tracks l.track) 0 (take l.j (take l.n l.posts))))
-    × (l.p ≤ l.at + l.i * 128)
+    × (l.p ≡ l.at + length (section_lines (track_named l.tracks l.track) 0 (take l.j (take l.row.n l.row.posts))))
+    × (l.p ≤ l.at + (l.j - 1) * 128)
     × (length l.out ≡ length l.initial.out)
-    × (l.out ≡ stored l.initial.out l.at (section_lines (track_named l.tracks l.track) 0 (take l.j (take l.n l.posts))))
-    × (l.j ≡ l.i + 1)
-
-abbrev pub decreases-loop-j : goal.decreases-loop-j
-decreases-loop-j l = l.n - l.j
+    × (l.out ≡ stored l.initial.out l.at (section_lines (track_named l.tracks l.track) 0 (take l.j (take l.row.n l.row.posts))))

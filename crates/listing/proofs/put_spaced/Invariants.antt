@@ -1,5 +1,5 @@
 -- `listing::put_spaced` meets its contract: the numbers so far stand, each after a space.
-use Prim.Native.Nat.{◌+◌, ◌-◌, ◌*◌, ◌≤◌}
+use Prim.Native.Nat.{◌+◌, ◌*◌, ◌≤◌}
 use mathlib.Core.Path.{◌≡◌}
 use lib.ListN.{length, take}
 use Rattle.digits.specs.Texts.{stored}
@@ -7,11 +7,7 @@ use Rattle.listing.specs.Lines.{spaced}
 use Rattle.listing.proofs.put_spaced.Given as goal
 
 abbrev pub invariant-loop-i : goal.invariant-loop-i
-invariant-loop-i l = (l.i ≤ length l.ns)
-    × (l.p ≡ l.at + length (spaced (take l.i l.ns)))
+invariant-loop-i l = (l.p ≡ l.at + length (spaced (take l.i l.ns)))
     × (length (spaced (take l.i l.ns)) ≤ l.i * 11)
     × (length l.out ≡ length l.initial.out)
     × (l.out ≡ stored l.initial.out l.at (spaced (take l.i l.ns)))
-
-abbrev pub decreases-loop-i : goal.decreases-loop-i
-decreases-loop-i l = length l.ns - l.i

@@ -1,13 +1,11 @@
--- `working::first_answered` meets its contract: what is left has the first answered event, counted from where it begins.
-use native.Mathlib.Omega.{arith}
-use Rattle.working.proofs.Answers.{first-here, first-later, first-none}
+-- `working::first_answered` meets its contract: the first event whose answer is another than 31.
+use Rattle.std.proofs.Common.{rules, tests}
+use Rattle.std.proofs.lemmas.Iterator.{YieldsList-from_slice}
+use Rattle.std.proofs.lemmas.Iterator.Search.{position_from_yields_List}
+use Rattle.working.proofs.Answers.{answered-already, first_place}
 use Rattle.working.proofs.first_answered.Goals as goal
 
-pub returns-then-e-ne-UNANSWERED : goal.returns-then-e-ne-UNANSWERED
-returns-then-e-ne-UNANSWERED c = omega (arith, c.loop-i.invariant.1, first-here c.args.events.now c.loop-i.i (omega arith) c.if-e-ne-UNANSWERED.true)
-
-pub loop-i-preserved : goal.loop-i-preserved
-loop-i-preserved c = (omega arith, omega (arith, c.loop-i.invariant.1, first-later c.args.events.now c.loop-i.i (omega arith) c.if-e-ne-UNANSWERED.false))
-
 pub returns : goal.returns
-returns c = omega (arith, c.loop-i.invariant.1, first-none c.args.events.now c.loop-i.i (omega arith))
+returns c =
+    rw (first_place c.args.events.now)
+    (position_from_yields_List answered-already _ _ c.position.result c.position.ensures.ran (YieldsList-from_slice _ c.iter.ensures.rest) (λ x b q k. search (rules, tests)))

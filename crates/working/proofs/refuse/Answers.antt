@@ -1,7 +1,0 @@
--- `working::refuse` meets its contract.
-use Rattle.row.specs.Row.{row_of}
-use Rattle.working.proofs.refuse.Goals as goal
-
-pub returns : goal.returns
-unfolding row_of
-returns c = rw c.blank_post-b.ensures
