@@ -8,25 +8,24 @@ use lib.Dec.{eqb, ltb}
 use Rattle.relay.proofs.Truth.{by}
 use Rattle.digits.specs.Digits.{digits}
 use Rattle.desk.specs.Words.{position_of, is_word, work_word, why_word, export_word, import_word, why_at, one_word, two_words, job_of}
-use Rattle.desk.specs.declared.words.Position.{Position}
-use Rattle.desk.specs.declared.words.Position.TheVariants.{Is, Wrong}
+use Rattle.std.proofs.Common.{Option, Some, None}
 use Rattle.desk.specs.declared.words.Job.{Job}
 use Rattle.desk.specs.declared.words.Job.TheVariants as job
 use Rattle.desk.proofs.Position.{position_iff}
 use Rattle.desk.proofs.Same.{word_iff}
 
 -- the words that ask for a job
-abbrev pub AskedBy : ℕ → List ℕ → List ℕ → Job → Type 0
-AskedBy n w a job.List = n < 2
-AskedBy n w a job.Work = (n ≡ 2) × (w ≡ work_word)
-AskedBy n w a (job.Why k) = (n ≡ 3) × (w ≡ why_word) × (a ≡ digits k) × (k < 2 ^ 32)
-AskedBy n w a job.Export = (n ≡ 2) × (w ≡ export_word)
-AskedBy n w a job.Import = (n ≡ 2) × (w ≡ import_word)
-AskedBy n w a job.Unknown = Unit
+abbrev pub AskedBy : ℕ → List ℕ → List ℕ → Option Job → Type 0
+AskedBy n w a (Some job.List) = n < 2
+AskedBy n w a (Some job.Work) = (n ≡ 2) × (w ≡ work_word)
+AskedBy n w a (Some (job.Why k)) = (n ≡ 3) × (w ≡ why_word) × (a ≡ digits k) × (k < 2 ^ 32)
+AskedBy n w a (Some job.Export) = (n ≡ 2) × (w ≡ export_word)
+AskedBy n w a (Some job.Import) = (n ≡ 2) × (w ≡ import_word)
+AskedBy n w a None = Unit
 
-why_asked : (n : ℕ) (w a : List ℕ) → n ≡ 3 → w ≡ why_word → (p : Position) → position_of a ≡ p → AskedBy n w a (why_at p)
-why_asked n w a e f (Is k) q = (e, f, ((position_iff a k).0 q).0, ((position_iff a k).0 q).1)
-why_asked n w a e f Wrong q = tt
+why_asked : (n : ℕ) (w a : List ℕ) → n ≡ 3 → w ≡ why_word → (p : Option ℕ) → position_of a ≡ p → AskedBy n w a (why_at p)
+why_asked n w a e f (Some k) q = (e, f, ((position_iff a k).0 q).0, ((position_iff a k).0 q).1)
+why_asked n w a e f None q = tt
 
 pub asked_by : (n : ℕ) (w a : List ℕ) → AskedBy n w a (job_of n w a)
 unfolding job_of one_word two_words

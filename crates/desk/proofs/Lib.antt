@@ -1,4 +1,6 @@
 pub mod AtNumber
+pub mod Checked
+pub mod Fronts
 pub mod Position
 pub mod Same
 pub mod JobWords

@@ -12,11 +12,11 @@ use Rattle.digits.specs.Digits.{digits}
 use Rattle.digits.specs.Numerals.{with_digit, marked}
 use Rattle.digits.proofs.Numerals.{marked_more, marked-digits, marked-says}
 use Rattle.desk.specs.Words.{position_at, position_of}
-use Rattle.desk.specs.declared.words.Position.TheVariants.{Is}
+use Rattle.std.proofs.Common.{Some}
 use Rattle.desk.proofs.AtNumber.{at_number, number_at}
 
 -- it says n exactly where it is what the listing writes for n, a number of 32 bits
-pub position_iff : (t : List ℕ) (n : ℕ) → (position_of t ≡ Is n) ↔ ((t ≡ digits n) × (n < 2 ^ 32))
+pub position_iff : (t : List ℕ) (n : ℕ) → (position_of t ≡ Some n) ↔ ((t ≡ digits n) × (n < 2 ^ 32))
 unfolding position_of
 position_iff t n = (
   λ e. let m = at_number (marked 0 t) n e in (marked-says t n m.0 (omega arith), m.1),

@@ -1,12 +1,14 @@
 -- A text is a word exactly where their bytes are the same.
 -- Assumes nothing.
 use Prim.Native.Nat.{ℕ}
-use mathlib.Core.Path.{◌≡◌, refl, sym, ap₂}
+use mathlib.Core.Path.{◌≡◌, refl, ap, ap₂}
 use mathlib.Core.Logic.{◌↔◌}
-use mathlib.Core.Bool.{Bool, true, false, false≢true}
+use Rattle.std.proofs.Common.{◌&&◌}
+use mathlib.Core.Bool.{true, false≢true}
 use mathlib.Core.List.{List, [], ◌∷◌}
 use borrow.Author.Tests.{eqb-true, eq-eqb}
 use lib.Dec.{eqb}
+use lib.Pointwise.{pointwise}
 use Rattle.relay.proofs.Truth.{and_facts}
 use Rattle.desk.specs.Words.{is_word}
 
@@ -27,8 +29,10 @@ is_itself (x ∷ xs) = rw (eq-eqb x x refl) (is_itself xs)
 pub word_iff : (t w : List ℕ) → (is_word t w ≡ true) ↔ (t ≡ w)
 word_iff t w = (same_bytes t w, λ e. rw e (is_itself w))
 
--- a test that says what another says is that test
-pub same_test : (a b : Bool) → (a ≡ true → b ≡ true) → (b ≡ true → a ≡ true) → a ≡ b
-same_test true b f g = sym (f refl)
-same_test false true f g = g refl
-same_test false false f g = refl
+-- and so `==` of two slices says
+pub same_word : (t w : List ℕ) → pointwise eqb t w ≡ is_word t w
+unfolding is_word
+same_word [] [] = refl
+same_word [] (y ∷ ys) = refl
+same_word (x ∷ xs) [] = refl
+same_word (x ∷ xs) (y ∷ ys) = ap (λ b. eqb x y && b) (same_word xs ys)

@@ -19,7 +19,14 @@ use Rattle.digits.specs.Digits.{digits}
 use Rattle.listing.specs.Lines.{ended, event_line, refused_line}
 use Rattle.why.proofs.Asked.{event-read}
 use Rattle.why.proofs.Named.{answerable, since-within}
-use Rattle.why.specs.Why.{event_at, track_at, since_tracks_of}
+use Rattle.std.proofs.Common.{Result, Ok, Err}
+use Rattle.sheet.proofs.Refusals.{refuses}
+use Rattle.sheet.specs.Refusals.{found_tracks_of}
+use Rattle.sheet.specs.declared.Header.{Header}
+use Rattle.sheet.specs.declared.refusal.Refusal.{Refusal as sheetRefusal}
+use Rattle.why.specs.declared.Refusal.{Refusal}
+use Rattle.why.specs.declared.Refusal.TheVariants.{NoSuchRefusal, Sheet}
+use Rattle.why.specs.Why.{event_at, track_at, since_told, since_tracks_of}
 use Rattle.why.specs.declared.Since.{Since}
 use Rattle.desk.specs.Text.{start_line, event_text, answer_text, since_text}
 
@@ -51,10 +58,22 @@ read_again s f e z =
     equal_or_not f.number 0 (λ q. (good-tracks s f e q).1)
     (λ q. absurd (eqb-false (verdict_up_to two_tracks s).number 0 (bad-tracks s f e q).0 z))
 
+-- so it is not refused
+pub reads_again : (s : List ℕ) (r : Result Header sheetRefusal) → found_tracks_of r ≡ read_tracks_of s 65 3780 3780 → (verdict_up_to two_tracks s).number ≡ 0
+    → ((h : Header) → r ≡ Ok h → ⊥) → ⊥
+reads_again s (Ok h) e z n = n h refl
+reads_again s (Err w) e z n = refuses w (ap (λ (x : FoundTracks). x.number) (read_again s (found_tracks_of (Err w)) e z))
+
+-- a refusal has a number
+pub told-refuses : (r : Result ℕ Refusal) → ((x : ℕ) → r ≡ Ok x → ⊥) → (since_told r).number ≡ 0 → ⊥
+told-refuses (Ok x) n e = n x refl
+told-refuses (Err NoSuchRefusal) n e = absurd (omega (arith, e))
+told-refuses (Err (Sheet w)) n e = refuses w e
+
 module _ (s : List ℕ) (k : ℕ) where
   module _ (r : Since) (e : r ≡ since_tracks_of s k) where
     -- no refusal: the sheet is accepted, and the event is one of it
-    named_in : r.number ≡ 0 → ((verdict_up_to two_tracks s).number ≡ 0) × (r.position ≤ length (decode_tracked s).events)
+    pub named_in : r.number ≡ 0 → ((verdict_up_to two_tracks s).number ≡ 0) × (r.position ≤ length (decode_tracked s).events)
     named_in z =
         let y = sym (ap (λ (x : Since). x.number) e) ∙ z in
         let w = since-within two_tracks (omega arith) s k y in

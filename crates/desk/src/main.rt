@@ -6,14 +6,17 @@ ghost use Rattle.std.specs.Prelude.{◌≤◌, length};
 ghost use Rattle.stream.specs.Steps.{Within};
 
 mod since;
+mod stop;
 mod words;
 
 use importing::steps;
 use importing::steps::State;
+use sheet::Verdict;
 use sheet::layout::{MOST_BYTES, MOST_ENTRIES};
 use std::env::{Env, FillError};
 use std::io::{Read, Write};
-use stream::Reading;
+use stop::Stop;
+use stream::Unread;
 use words::Job;
 
 // Room for the longest word that asks for anything: a longer one is taken as an empty one.
@@ -30,151 +33,92 @@ const PIECES: u32 = 32768;
 // A text is read in as many pieces as 2 to the 64th bytes have.
 const TEXT_PIECES: u64 = 281474976710656;
 
-// Reads on to the end of an input longer than any sheet, of which n bytes are read, so that whoever writes it is not cut off; an input that never ends is left after two gigabytes. Whether no read failed.
-fn drain<R: Read>(input: &mut R, n: usize) -> bool {
+// Reads on to the end of an input longer than any sheet, of which n bytes are read, so that whoever writes it is not cut off; an input that never ends is left after two gigabytes.
+fn drain<R: Read>(input: &mut R, n: usize) -> Result<(), Unread> {
     if n < ROOM {
-        return true;
+        return Ok(());
     }
     let mut room = [0u8; PIECE];
-    let mut i: u32 = 0;
-    while i < PIECES {
-        let Reading::Whole(more) = stream::read_whole(input, &mut room) else {
-            return false;
-        };
-        if more < PIECE {
-            return true;
+    for _ in 0..PIECES {
+        if stream::read_whole(input, &mut room)? < PIECE {
+            return Ok(());
         }
-        i += 1;
     }
-    true
+    Ok(())
 }
 
-// Reads the whole input, or says on standard error that it could not be read.
-fn read_input<R: Read, E: Write>(input: &mut R, errors: &mut E, room: &mut [u8; ROOM]) -> Reading
+// Reads the whole input; how many bytes of it stand at the front of the room.
+fn read_input<R: Read>(input: &mut R, room: &mut [u8; ROOM]) -> Result<usize, Unread>
     ensures { Within (length room.new) result }
 {
-    let Reading::Whole(n) = stream::read_whole(input, room) else {
-        stream::tell_unread(errors);
-        return Reading::Failed;
-    };
-    if !drain(input, n) {
-        stream::tell_unread(errors);
-        return Reading::Failed;
-    }
-    Reading::Whole(n)
+    let n = stream::read_whole(input, room)?;
+    drain(input, n)?;
+    Ok(n)
 }
 
 // Prints the listing of the sheet.
-fn list_sheet<R: Read, W: Write, E: Write>(input: &mut R, output: &mut W, errors: &mut E) {
+fn list_sheet<R: Read, W: Write>(input: &mut R, output: &mut W) -> Result<(), Stop> {
     let mut s = [0u8; ROOM];
     let mut page = [0u8; listing::PAGE];
-    let Reading::Whole(n) = read_input(input, errors, &mut s) else {
-        return;
-    };
+    let n = read_input(input, &mut s)?;
     let m = listing::list(&s[..n], &mut page);
-    stream::print(output, errors, &page[..m]);
+    Ok(stream::write_whole(output, &page[..m])?)
 }
 
 // Prints the worked sheet's bytes. A refusal is told on standard error, so that none ends up inside a sheet.
-fn work_sheet<R: Read, W: Write, E: Write>(input: &mut R, output: &mut W, errors: &mut E) {
+fn work_sheet<R: Read, W: Write>(input: &mut R, output: &mut W) -> Result<(), Stop> {
     let mut s = [0u8; ROOM];
     let mut out = [0u8; MOST_BYTES];
-    let Reading::Whole(n) = read_input(input, errors, &mut s) else {
-        return;
-    };
-    let done = working::work_tracks(&s[..n], &mut out);
-    if done.number != 0 {
-        tell_refused(errors, done.number, done.block as u64, done.position);
-        return;
-    }
-    stream::print(output, errors, &out[..n]);
+    let n = read_input(input, &mut s)?;
+    working::work_tracks(&s[..n], &mut out)?;
+    Ok(stream::write_whole(output, &out[..n])?)
 }
 
 // Prints since when the refusal of the event at `position` holds.
-fn say_since<R: Read, W: Write, E: Write>(
-    input: &mut R,
-    output: &mut W,
-    errors: &mut E,
-    position: u32,
-) {
+#[tactic(auto, using(crate::proofs::Fronts::stands, crate::proofs::Fronts::front))]
+fn say_since<R: Read, W: Write>(input: &mut R, output: &mut W, position: u32) -> Result<(), Stop> {
     let mut s = [0u8; ROOM];
     let mut line = [0u8; listing::LINE];
-    let Reading::Whole(n) = read_input(input, errors, &mut s) else {
-        return;
-    };
+    let n = read_input(input, &mut s)?;
     let m = since::since_text(&s[..n], position, &mut line);
-    stream::print(output, errors, &line[..m]);
+    Ok(stream::write_whole(output, &line[..m])?)
 }
 
 // Prints the register of the sheet as comma-separated text. A refusal is told on standard error, so that none ends up inside a register.
-fn export_sheet<R: Read, W: Write, E: Write>(input: &mut R, output: &mut W, errors: &mut E) {
+fn export_sheet<R: Read, W: Write>(input: &mut R, output: &mut W) -> Result<(), Stop> {
     let mut s = [0u8; ROOM];
     let mut page = [0u8; exporting::PAGE];
-    let Reading::Whole(n) = read_input(input, errors, &mut s) else {
-        return;
-    };
-    let done = exporting::export_tracks(&s[..n], &mut page);
-    if done.number != 0 {
-        tell_refused(errors, done.number, done.block as u64, done.position);
-        return;
-    }
-    let m = done.bytes;
-    stream::print(output, errors, &page[..m]);
+    let n = read_input(input, &mut s)?;
+    let m = exporting::export_tracks(&s[..n], &mut page)?;
+    Ok(stream::write_whole(output, &page[..m])?)
 }
 
 // Prints the sheet that the register's text on standard input says: read in pieces, to its end, however long it is. A refusal is told on standard error.
-fn import_text<R: Read, W: Write, E: Write>(input: &mut R, output: &mut W, errors: &mut E) {
+fn import_text<R: Read, W: Write>(input: &mut R, output: &mut W) -> Result<(), Stop> {
     let mut kinds = [0u32; 32];
     let mut events = [[0u32; 4]; MOST_ENTRIES];
     let mut room = [0u8; PIECE];
     let mut s = steps::begin();
-    let mut i: u64 = 0;
-    while i < TEXT_PIECES {
-        let Reading::Whole(n) = stream::read_whole(input, &mut room) else {
-            stream::tell_unread(errors);
-            return;
-        };
+    for _ in 0..TEXT_PIECES {
+        let n = stream::read_whole(input, &mut room)?;
         s = importing::feed(&room[..n], s, &mut kinds, &mut events);
         if n < PIECE {
-            print_imported(output, errors, s, kinds, events);
-            return;
+            return print_imported(output, s, kinds, events);
         }
-        i += 1;
     }
-    stream::tell_unread(errors);
+    Err(Stop::Unread(Unread))
 }
 
 // Prints the sheet that was fed.
-fn print_imported<W: Write, E: Write>(
+fn print_imported<W: Write>(
     output: &mut W,
-    errors: &mut E,
     s: State,
     mut kinds: [u32; 32],
     mut events: [[u32; 4]; MOST_ENTRIES],
-) {
+) -> Result<(), Stop> {
     let mut out = [0u8; MOST_BYTES];
-    let done = importing::settle(s, &mut kinds, &mut events, &mut out);
-    if done.number != 0 {
-        tell_refused(errors, done.number, done.at, 0);
-        return;
-    }
-    let n = done.bytes;
-    stream::print(output, errors, &out[..n]);
-}
-
-// Says on standard error that the sheet is refused, and where.
-fn tell_refused<E: Write>(errors: &mut E, number: u32, place: u64, position: u32) {
-    let mut line = [0u8; listing::LINE];
-    let m = listing::refused_line(&mut line, number, place, position);
-    stream::write_whole(errors, &line[..m]);
-}
-
-// Says on standard error, in one line, what the words may be.
-fn tell_usage<E: Write>(errors: &mut E) {
-    stream::write_whole(
-        errors,
-        b"usage: desk [work | why POSITION | export | import] <INPUT\n",
-    );
+    let n = importing::settle(s, &mut kinds, &mut events, &mut out)?;
+    Ok(stream::write_whole(output, &out[..n])?)
 }
 
 // How many arguments the program was started with, its own name among them.
@@ -192,14 +136,11 @@ fn argument_count<V: Env>(rt: &V) -> usize {
 fn argument<V: Env>(rt: &V, i: usize, room: &mut [u8; WORD]) -> usize
     ensures { result ≤ length room.new }
 {
-    match rt.arg(i, room) {
-        Ok(n) => n,
-        Err(_) => 0,
-    }
+    rt.arg(i, room).unwrap_or(0)
 }
 
-// The job that the program's words ask for.
-fn asked<V: Env>(rt: &V) -> Job {
+// The job that the program's words ask for, if they ask for any.
+fn asked<V: Env>(rt: &V) -> Option<Job> {
     let mut word = [0u8; WORD];
     let mut after = [0u8; WORD];
     let n = argument(rt, 1, &mut word);
@@ -208,18 +149,20 @@ fn asked<V: Env>(rt: &V) -> Job {
 }
 
 // One line for each job: a job more is a line here, its words in `words` and a function above.
-fn run<R: Read, W: Write, E: Write>(input: &mut R, output: &mut W, errors: &mut E, job: Job) {
+fn run<R: Read, W: Write>(input: &mut R, output: &mut W, job: Option<Job>) -> Result<(), Stop> {
     match job {
-        Job::List => list_sheet(input, output, errors),
-        Job::Work => work_sheet(input, output, errors),
-        Job::Why(position) => say_since(input, output, errors, position),
-        Job::Export => export_sheet(input, output, errors),
-        Job::Import => import_text(input, output, errors),
-        Job::Unknown => tell_usage(errors),
+        Some(Job::List) => list_sheet(input, output),
+        Some(Job::Work) => work_sheet(input, output),
+        Some(Job::Why(position)) => say_since(input, output, position),
+        Some(Job::Export) => export_sheet(input, output),
+        Some(Job::Import) => import_text(input, output),
+        None => Err(Stop::Unasked),
     }
 }
 
 fn main(rt: HostRuntime) {
     let job = asked(&rt);
-    run(&mut rt.stdin(), &mut rt.stdout(), &mut rt.stderr(), job);
+    if let Err(stop) = run(&mut rt.stdin(), &mut rt.stdout(), job) {
+        stop.tell(&mut rt.stderr());
+    }
 }

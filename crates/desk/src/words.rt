@@ -2,13 +2,6 @@
 ghost use Rattle.std.specs.Prelude.{◌≡◌};
 ghost use Rattle.desk.specs.Words.{position_of, is_word, one_word, two_words, job_of};
 
-// The position that a text says, where it says one.
-#[derive(Clone, Copy)]
-pub enum Position {
-    Is(u32),
-    Wrong,
-}
-
 // What the program is to do.
 #[derive(Clone, Copy)]
 pub enum Job {
@@ -17,77 +10,64 @@ pub enum Job {
     Why(u32),
     Export,
     Import,
-    Unknown,
 }
 
-// The position that a text says, digit by digit: its mark is the number and 1.
-pub fn position_of(text: &[u8]) -> Position
+// The position that a text says, digit by digit: its mark is the number and 1. `parse` would not do: it takes a plus sign and leading zeros, which no listing writes.
+pub fn position_of(text: &[u8]) -> Option<u32>
     ensures { result ≡ position_of text.now }
 {
-    let mut mark: u64 = 0;
-    let mut i: usize = 0;
-    while i < text.len() {
-        mark = digits::with_digit(mark, text[i]);
-        i += 1;
+    let mut mark = 0;
+    for &byte in text {
+        mark = digits::with_digit(mark, byte);
     }
-    if mark == 0 {
-        return Position::Wrong;
-    }
-    if mark <= 4294967296 {
-        let n = (mark - 1) as u32;
-        return Position::Is(n);
-    }
-    Position::Wrong
+    u32::try_from(mark.checked_sub(1)?).ok()
 }
 
 // Whether the text is this word.
+#[tactic(auto, using(crate::proofs::Same::same_word))]
 fn is(text: &[u8], word: &[u8]) -> bool
     ensures { result ≡ is_word text.now word.now }
 {
-    check::same(text, word)
+    text == word
 }
 
 // A word alone.
-fn one_word(word: &[u8]) -> Job
+#[tactic(auto, unfolding(crate::specs::Words::one_word))]
+fn one_word(word: &[u8]) -> Option<Job>
     ensures { result ≡ one_word word.now }
 {
     if is(word, b"work") {
-        return Job::Work;
+        Some(Job::Work)
+    } else if is(word, b"export") {
+        Some(Job::Export)
+    } else if is(word, b"import") {
+        Some(Job::Import)
+    } else {
+        None
     }
-    if is(word, b"export") {
-        return Job::Export;
-    }
-    if is(word, b"import") {
-        return Job::Import;
-    }
-    Job::Unknown
 }
 
 // A word and one after it.
-fn two_words(word: &[u8], after: &[u8]) -> Job
+#[tactic(auto, unfolding(crate::specs::Words::two_words))]
+fn two_words(word: &[u8], after: &[u8]) -> Option<Job>
     ensures { result ≡ two_words word.now after.now }
 {
     if is(word, b"why") {
-        let Position::Is(position) = position_of(after) else {
-            return Job::Unknown;
-        };
-        return Job::Why(position);
+        Some(Job::Why(position_of(after)?))
+    } else {
+        None
     }
-    Job::Unknown
 }
 
 // What is asked for, by how many arguments there are, the program's own name among them, and by the words after it.
-pub fn job_of(arguments: usize, word: &[u8], after: &[u8]) -> Job
+#[tactic(auto, unfolding(crate::specs::Words::job_of), using(relay::proofs::Tests::tests))]
+pub fn job_of(arguments: usize, word: &[u8], after: &[u8]) -> Option<Job>
     ensures { result ≡ job_of arguments word.now after.now }
 {
-    if arguments < 2 {
-        return Job::List;
+    match arguments {
+        0 | 1 => Some(Job::List),
+        2 => one_word(word),
+        3 => two_words(word, after),
+        _ => None,
     }
-    if arguments == 2 {
-        return one_word(word);
-    }
-    if arguments == 3 {
-        return two_words(word, after);
-    }
-    Job::Unknown
 }

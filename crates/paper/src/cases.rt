@@ -1,51 +1,116 @@
 // The cases marked P, each on a fresh line of kinds 0, 4, 1. 01, 'Proved and run examples'. Prints `P`, the case, the answer.
-use std::io::Write;
-use stream::say;
+use crate::row;
+use relay::{Event, Form};
+use std::io::{Result, Write};
 
-const KINDS: [u32; 3] = [0, 4, 1];
-
-// How many of row's events come before, the event, its post, its stamp.
-const CASES: [[u32; 4]; 12] = [
-    // 7: the lever is normal already
-    [0, 2, 0, 0],
-    // 6: kind 1 has no announcement to send
-    [0, 5, 2, 0],
-    // 2: three posts have the sections 0 and 1
-    [0, 8, 2, 0],
-    // 14: nothing is under way
-    [0, 8, 0, 0],
-    // 3, before 2: there is no event 16, and no post 40
-    [0, 16, 40, 0],
-    // 0: 2^31 - 1 after the last is not behind
-    [0, 1, 0, 2147483647],
-    // 4: 2^31 after the last reads below zero
-    [0, 1, 0, 2147483648],
-    // 15: RL is up
-    [0, 10, 0, 0],
-    // 16: the announcement is under way
-    [1, 10, 0, 0],
-    // 17: An is up at post 1
-    [2, 10, 0, 0],
-    // 13: post 1 has not announced onward, so its RL is up
-    [3, 6, 1, 0],
-    // 0: now it has
-    [4, 6, 1, 0],
+const KINDS: [u32; 3] = [
+    Form::Origin as u32,
+    Form::Intermediate as u32,
+    Form::Terminus as u32,
 ];
 
-fn case<W: Write>(output: &mut W, said: bool, i: u32, c: [u32; 4]) -> bool {
-    let kinds = KINDS;
-    let k = crate::row::session(&kinds, c[0] as usize);
-    let out = crate::row::next(k, 3, c[1], c[2], c[3]);
-    let said = say::word(output, said, b"P");
-    let said = say::number(output, said, i);
-    let said = say::number(output, said, out.told.answer);
-    say::end(output, said)
+// How many of row's events come before, then the event's number, its post, its stamp.
+#[derive(Clone, Copy)]
+struct Case {
+    before: usize,
+    number: u32,
+    post: u32,
+    stamp: u32,
 }
 
-pub fn run<W: Write>(output: &mut W, said: bool) -> bool {
-    let mut said = said;
-    for i in 0..12usize {
-        said = case(output, said, i as u32 + 1, CASES[i]);
+const CASES: [Case; 12] = [
+    // 7: the lever is normal already
+    Case {
+        before: 0,
+        number: Event::Normal as u32,
+        post: 0,
+        stamp: 0,
+    },
+    // 6: kind 1 has no announcement to send
+    Case {
+        before: 0,
+        number: Event::Announce as u32,
+        post: 2,
+        stamp: 0,
+    },
+    // 2: three posts have the sections 0 and 1
+    Case {
+        before: 0,
+        number: Event::Arrive as u32,
+        post: 2,
+        stamp: 0,
+    },
+    // 14: nothing is under way
+    Case {
+        before: 0,
+        number: Event::Arrive as u32,
+        post: 0,
+        stamp: 0,
+    },
+    // 3, before 2: there is no event 16, and no post 40
+    Case {
+        before: 0,
+        number: 16,
+        post: 40,
+        stamp: 0,
+    },
+    // 0: 2^31 - 1 after the last is not behind
+    Case {
+        before: 0,
+        number: Event::Reverse as u32,
+        post: 0,
+        stamp: 2147483647,
+    },
+    // 4: 2^31 after the last reads below zero
+    Case {
+        before: 0,
+        number: Event::Reverse as u32,
+        post: 0,
+        stamp: 2147483648,
+    },
+    // 15: RL is up
+    Case {
+        before: 0,
+        number: Event::Restore as u32,
+        post: 0,
+        stamp: 0,
+    },
+    // 16: the announcement is under way
+    Case {
+        before: 1,
+        number: Event::Restore as u32,
+        post: 0,
+        stamp: 0,
+    },
+    // 17: An is up at post 1
+    Case {
+        before: 2,
+        number: Event::Restore as u32,
+        post: 0,
+        stamp: 0,
+    },
+    // 13: post 1 has not announced onward, so its RL is up
+    Case {
+        before: 3,
+        number: Event::Release as u32,
+        post: 1,
+        stamp: 0,
+    },
+    // 0: now it has
+    Case {
+        before: 4,
+        number: Event::Release as u32,
+        post: 1,
+        stamp: 0,
+    },
+];
+
+pub fn run<W: Write>(output: &mut W) -> Result<()> {
+    for (i, case) in CASES.iter().enumerate() {
+        let mut line = [row::LITTER; KINDS.len()];
+        let head = row::session(&mut line, &KINDS, case.before);
+        let told = lent::desk_event(&mut line, head, case.number, case.post, case.stamp);
+        writeln!(output, "P {} {}", i + 1, told.answer)?;
     }
-    said
+    Ok(())
 }

@@ -10,12 +10,19 @@ mod row;
 mod stamps;
 mod starts;
 
+use std::io::{Result, Write};
+use stream::Unwritten;
+
+fn run<W: Write>(output: &mut W) -> Result<()> {
+    cases::run(output)?;
+    listing::run(output)?;
+    damage::run(output)?;
+    starts::run(output)?;
+    stamps::run(output)
+}
+
 fn main(rt: HostRuntime) {
-    let mut output = rt.stdout();
-    let said = cases::run(&mut output, true);
-    let said = listing::run(&mut output, said);
-    let said = damage::run(&mut output, said);
-    let said = starts::run(&mut output, said);
-    let written = stamps::run(&mut output, said);
-    stream::tell_unwritten(&mut rt.stderr(), written);
+    if run(&mut rt.stdout()).is_err() {
+        let _ = eprintln!(rt; "{}", Unwritten);
+    }
 }

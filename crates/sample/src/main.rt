@@ -3,26 +3,31 @@
 
 #![tactic(auto)]
 
+use relay::{Event, Form};
+use sheet::layout::UNANSWERED;
+
 fn main(rt: HostRuntime) {
-    let kinds = [0u32, 1];
+    let kinds = [Form::Origin as u32, Form::Terminus as u32];
     let events = [
-        [1u32, 0, 31, 1000],
-        [4, 0, 31, 2000],
-        [5, 0, 31, 3000],
-        [2, 0, 31, 4000],
-        [1, 0, 31, 5000],
-        [5, 0, 31, 6000],
-        [3, 1, 31, 7000],
-        [8, 0, 31, 8000],
-        [6, 1, 31, 9000],
-        [3, 1, 31, 10000],
-        [6, 1, 31, 11000],
-        [9, 0, 31, 12000],
-        [1, 0, 31, 13000],
-        [10, 0, 31, 14000],
-        [1, 0, 31, 15000],
+        [Event::Reverse as u32, 0, UNANSWERED, 1000],
+        [Event::Strike as u32, 0, UNANSWERED, 2000],
+        [Event::Announce as u32, 0, UNANSWERED, 3000],
+        [Event::Normal as u32, 0, UNANSWERED, 4000],
+        [Event::Reverse as u32, 0, UNANSWERED, 5000],
+        [Event::Announce as u32, 0, UNANSWERED, 6000],
+        [Event::Pass as u32, 1, UNANSWERED, 7000],
+        [Event::Arrive as u32, 0, UNANSWERED, 8000],
+        [Event::Release as u32, 1, UNANSWERED, 9000],
+        [Event::Pass as u32, 1, UNANSWERED, 10000],
+        [Event::Release as u32, 1, UNANSWERED, 11000],
+        [Event::Lose as u32, 0, UNANSWERED, 12000],
+        [Event::Reverse as u32, 0, UNANSWERED, 13000],
+        [Event::Restore as u32, 0, UNANSWERED, 14000],
+        [Event::Reverse as u32, 0, UNANSWERED, 15000],
     ];
     let mut out = [0u8; 1024];
-    lent_sheet::write(&kinds, 0, &events, &mut out);
-    stream::print(&mut rt.stdout(), &mut rt.stderr(), &out);
+    let _ = lent_sheet::write(&kinds, 0, &events, &mut out);
+    if let Err(failed) = stream::write_whole(&mut rt.stdout(), &out) {
+        let _ = eprintln!(rt; "{failed}");
+    }
 }

@@ -1,226 +1,135 @@
 // The cases, by subject.
-ghost use Rattle.std.specs.Prelude.{◌≤◌};
+ghost use Rattle.std.specs.Prelude.{◌≤◌, ◌<◌, ◌+◌, length};
 
-use std::io::Write;
-use stream::say;
+use relay::{Event, Form};
+use sheet::layout::{BLOCK_BYTES, MOST_BYTES, MOST_ENTRIES, UNANSWERED};
+use sheet::{Found, Refusal, Verdict};
+use std::io::{Result, Write};
 
 // The event of the paper's second check word: event 1 at post 0, not yet answered, stamp 1000.
-const FIRST: [u32; 4] = [1, 0, 31, 1000];
+const FIRST: [u32; 4] = [Event::Reverse as u32, 0, UNANSWERED, 1000];
 
-// A byte as a wider number.
-fn wide(b: u8) -> u64
-    ensures { result ≤ 255 }
+// The table of the shortest line.
+const KINDS: [u32; 2] = [Form::Origin as u32, Form::Terminus as u32];
+
+// The little-endian word that stands at a byte offset.
+fn word_at(s: &[u8], at: usize) -> u32
+    requires { at + 3 < length s.now }
 {
-    b as u64
+    u32::from_le_bytes([s[at], s[at + 1], s[at + 2], s[at + 3]])
 }
 
-// The little-endian word that stands at a byte offset, or 0 past the end.
-fn word_at(s: &[u8], at: usize) -> u64 {
-    if s.len() < 4 {
-        return 0;
-    }
-    if s.len() - 4 < at {
-        return 0;
-    }
-    wide(s[at]) + wide(s[at + 1]) * 256 + wide(s[at + 2]) * 65536 + wide(s[at + 3]) * 16777216
+// What writing returns as a number.
+fn written(kinds: &[u32], stamp: u32, events: &[[u32; 4]], out: &mut [u8]) -> u32 {
+    sheet::written_number(lent_sheet::write(kinds, stamp, events, out))
 }
 
 // What testing says: number, block and position.
-fn tested<W: Write>(output: &mut W, said: bool, s: &[u8]) -> bool {
-    let v = lent_sheet::test(s);
-    let said = say::number(output, said, v.number);
-    let said = say::number(output, said, v.block);
-    let said = say::number(output, said, v.position);
-    say::end(output, said)
-}
-
-// The same of a part.
-fn part_tested<W: Write>(output: &mut W, said: bool, s: &[u8], from: usize, to: usize) -> bool {
-    if s.len() < to {
-        return said;
-    }
-    if to < from {
-        return said;
-    }
-    tested(output, said, &s[from..to])
+fn tested<W: Write>(output: &mut W, name: &str, s: &[u8]) -> Result<()> {
+    let v = Verdict::from(lent_sheet::test(s));
+    writeln!(output, "{name} {} {} {}", v.number, v.block, v.position)
 }
 
 // 'kinds 0, 1 with start stamp 0 give a block 0 check word of 317940; a following block of event 1 at post 0, answer 31, stamp 1000 has check word 253455';
 // 'a header alone is a good sheet'
-pub fn paper<W: Write>(output: &mut W, said: bool) -> bool {
-    let kinds = [0u32, 1];
-    let events = [FIRST; 1];
+pub fn paper<W: Write>(output: &mut W) -> Result<()> {
     let mut out = [9u8; 1030];
-    let said = say::word(output, said, b"written");
-    let said = say::number(
-        output,
-        said,
-        lent_sheet::write(&kinds, 0, &events, &mut out),
-    );
-    let said = say::long(output, said, word_at(&out, 508));
-    let said = say::long(output, said, word_at(&out, 1020));
+    let written = written(&KINDS, 0, &[FIRST], &mut out);
+    let (first, second) = (word_at(&out, 508), word_at(&out, 1020));
     // the bytes past the sheet stay
-    let said = say::long(output, said, wide(out[1024]));
-    let said = say::end(output, said);
-    let said = say::word(output, said, b"header alone");
-    let said = part_tested(output, said, &out, 0, 512);
-    let said = say::word(output, said, b"both blocks");
-    let said = part_tested(output, said, &out, 0, 1024);
+    writeln!(output, "written {written} {first} {second} {}", out[1024])?;
+    blocks(output, &out)
+}
+
+fn blocks<W: Write>(output: &mut W, sheet: &[u8; 1030]) -> Result<()> {
+    tested(output, "header alone", &sheet[..512])?;
+    tested(output, "both blocks", &sheet[..1024])?;
     // the second block alone is read as block 0: its check is one off
-    let said = say::word(output, said, b"no header");
-    part_tested(output, said, &out, 512, 1024)
+    tested(output, "no header", &sheet[512..1024])
 }
 
 // 'Lengths 0, 511 and 33,280 give 18'
-pub fn lengths<W: Write>(output: &mut W, said: bool) -> bool {
+pub fn lengths<W: Write>(output: &mut W) -> Result<()> {
     let bytes = [0u8; 33280];
-    let said = say::word(output, said, b"length 0");
-    let said = tested(output, said, &bytes[..0]);
-    let said = say::word(output, said, b"length 511");
-    let said = tested(output, said, &bytes[..511]);
-    let said = say::word(output, said, b"length 513");
-    let said = tested(output, said, &bytes[..513]);
-    let said = say::word(output, said, b"length 33280");
-    let said = tested(output, said, &bytes[..33280]);
+    tested(output, "length 0", &bytes[..0])?;
+    tested(output, "length 511", &bytes[..511])?;
+    tested(output, "length 513", &bytes[..513])?;
+    tested(output, "length 33280", &bytes)?;
     // of zeros, block 0 fails its check
-    let said = say::word(output, said, b"length 512");
-    tested(output, said, &bytes[..512])
+    tested(output, "length 512", &bytes[..512])
 }
 
 // Room that is too short gives 21, last, and stays; room past what is read stays.
-pub fn rooms<W: Write>(output: &mut W, said: bool) -> bool {
-    let kinds = [0u32, 1];
-    let events = [FIRST; 1];
-    let mut out = [0u8; 1024];
-    let said = say::word(output, said, b"short output");
+pub fn rooms<W: Write>(output: &mut W) -> Result<()> {
     let mut less = [7u8; 1023];
-    let said = say::number(
-        output,
-        said,
-        lent_sheet::write(&kinds, 0, &events, &mut less),
-    );
-    let said = say::long(output, said, wide(less[0]));
-    let said = say::end(output, said);
-    lent_sheet::write(&kinds, 77, &events, &mut out);
-    let mut ks = [5u32; 3];
-    let mut es = [[6u32; 4]; 2];
-    let found = lent_sheet::read(&out, &mut ks, &mut es);
-    let e = es[0];
-    let rest = es[1];
-    let said = say::word(output, said, b"read");
-    let said = say::number(output, said, found.number);
-    let said = say::number(output, said, found.posts);
-    let said = say::number(output, said, found.stamp);
-    let said = say::number(output, said, found.events);
-    let said = say::number(output, said, ks[1]);
-    let said = say::number(output, said, ks[2]);
-    let said = say::number(output, said, e[0]);
-    let said = say::number(output, said, e[1]);
-    let said = say::number(output, said, e[2]);
-    let said = say::number(output, said, e[3]);
-    let said = say::number(output, said, rest[0]);
-    let said = say::end(output, said);
+    let refused = written(&KINDS, 0, &[FIRST], &mut less);
+    writeln!(output, "short output {refused} {}", less[0])?;
+    let mut out = [0u8; 1024];
+    let _ = lent_sheet::write(&KINDS, 77, &[FIRST], &mut out);
+    let mut kinds = [5u32; 3];
+    let mut events = [[6u32; 4]; 2];
+    let found = Found::from(lent_sheet::read(&out, &mut kinds, &mut events));
+    let (number, posts, stamp) = (found.number, found.posts, found.stamp);
+    write!(output, "read {number} {posts} {stamp} {}", found.events)?;
+    write!(output, " {} {}", kinds[1], kinds[2])?;
+    let [event, post, answer, at] = events[0];
+    writeln!(output, " {event} {post} {answer} {at} {}", events[1][0])?;
     let mut one = [5u32; 1];
-    let short = lent_sheet::read(&out, &mut one, &mut es);
-    let said = say::word(output, said, b"short room");
-    let said = say::number(output, said, short.number);
-    let said = say::number(output, said, short.block);
-    let said = say::number(output, said, short.posts);
-    let said = say::number(output, said, one[0]);
-    say::end(output, said)
+    let short = Found::from(lent_sheet::read(&out, &mut one, &mut events));
+    let (number, block, posts) = (short.number, short.block, short.posts);
+    writeln!(output, "short room {number} {block} {posts} {}", one[0])
 }
 
 // A full sheet of 3,780 events is 64 blocks; 3,781 are refused 18; an event out of its field 20; a wrong table 1, before all.
-pub fn full<W: Write>(output: &mut W, said: bool) -> bool {
+pub fn full<W: Write>(output: &mut W) -> Result<()> {
     let kinds = [0u32, 3, 1];
-    let events = [FIRST; 3780];
-    let mut out = [0u8; 32768];
-    let said = say::word(output, said, b"full");
-    let said = say::number(
-        output,
-        said,
-        lent_sheet::write(&kinds, 5, &events, &mut out),
-    );
-    let said = tested(output, said, &out[..32768]);
-    let more = [FIRST; 3781];
-    let said = say::word(output, said, b"one too many");
-    let said = say::number(output, said, lent_sheet::write(&kinds, 5, &more, &mut out));
-    let said = say::end(output, said);
-    let number = [[32u32, 0, 31, 0]; 1];
-    let post = [[1u32, 64, 31, 0]; 1];
-    let answer = [[1u32, 0, 32, 0]; 1];
-    let wrong = [0u32, 5, 1];
-    let said = say::word(output, said, b"out of field");
-    let said = say::number(
-        output,
-        said,
-        lent_sheet::write(&kinds, 5, &number, &mut out),
-    );
-    let said = say::number(output, said, lent_sheet::write(&kinds, 5, &post, &mut out));
-    let said = say::number(
-        output,
-        said,
-        lent_sheet::write(&kinds, 5, &answer, &mut out),
-    );
-    let said = say::number(
-        output,
-        said,
-        lent_sheet::write(&wrong, 5, &answer, &mut out),
-    );
-    say::end(output, said)
+    let mut out = [0u8; MOST_BYTES];
+    let whole = written(&kinds, 5, &[FIRST; MOST_ENTRIES], &mut out);
+    write!(output, "full {whole}")?;
+    tested(output, "", &out)?;
+    let long = written(&kinds, 5, &[FIRST; MOST_ENTRIES + 1], &mut out);
+    writeln!(output, "one too many {long}")?;
+    let number = written(&kinds, 5, &[[32, 0, 31, 0]], &mut out);
+    let post = written(&kinds, 5, &[[1, 64, 31, 0]], &mut out);
+    let answer = written(&kinds, 5, &[[1, 0, 32, 0]], &mut out);
+    let table = written(&[0, 5, 1], 5, &[[1, 0, 32, 0]], &mut out);
+    writeln!(output, "out of field {number} {post} {answer} {table}")
 }
 
-// 1 where a verdict is 19 with block `b`, else 0.
-fn named(number: u32, block: u32, b: usize) -> u64
-    ensures { result ≤ 1 }
+// Whether a flipped bit in block `b` gives 19 with that block. The bit is flipped back.
+fn found_bad(sheet: &mut [u8; MOST_BYTES], b: usize) -> bool
+    requires { b < 64 }
 {
-    if number != 19 {
-        return 0;
-    }
-    if block as usize != b {
-        return 0;
-    }
-    1
+    let at = b * BLOCK_BYTES + 8;
+    sheet[at] ^= 1;
+    let tested = lent_sheet::test(sheet);
+    sheet[at] ^= 1;
+    tested == Err(Refusal::Check(b as u32))
 }
 
 // One flipped bit in each block of a full sheet: 19 with that block, and no block before it.
-pub fn damaged<W: Write>(output: &mut W, said: bool) -> bool {
-    let kinds = [0u32, 2, 4, 1];
-    let events = [FIRST; 3780];
-    let mut out = [0u8; 32768];
-    lent_sheet::write(&kinds, 5, &events, &mut out);
-    let mut b: usize = 0;
-    let mut right: u64 = 0;
-    while b < 64 {
-        let at = b * 512 + 8;
-        out[at] = out[at] ^ 1;
-        let v = lent_sheet::test(&out);
-        right = right + named(v.number, v.block, b);
-        out[at] = out[at] ^ 1;
-        b += 1;
+pub fn damaged<W: Write>(output: &mut W) -> Result<()> {
+    let mut out = [0u8; MOST_BYTES];
+    let _ = lent_sheet::write(&[0, 2, 4, 1], 5, &[FIRST; MOST_ENTRIES], &mut out);
+    let mut right = 0;
+    for b in 0..64 {
+        right += usize::from(found_bad(&mut out, b));
     }
-    let said = say::word(output, said, b"a bad block in each place");
-    let said = say::long(output, said, right);
-    let said = say::end(output, said);
-    let said = say::word(output, said, b"mended");
-    tested(output, said, &out[..32768])
+    writeln!(output, "a bad block in each place {right}")?;
+    tested(output, "mended", &out)
 }
 
 // Bit 16 of two event words of block 2 up, and bit 16 of their stamps down, so that the block adds up as before: 24 with the block and the first of the two, then with the other.
-pub fn upper<W: Write>(output: &mut W, said: bool) -> bool {
-    let kinds = [0u32, 1];
-    let events = [[1u32, 0, 31, 66536]; 120];
+pub fn upper<W: Write>(output: &mut W) -> Result<()> {
     let mut out = [0u8; 1536];
-    lent_sheet::write(&kinds, 0, &events, &mut out);
+    let _ = lent_sheet::write(&KINDS, 0, &[[1, 0, UNANSWERED, 66536]; 120], &mut out);
     // events 7 and 9 of block 2: their words at 1084 and 1100
     out[1086] = 1;
     out[1090] = 0;
     out[1102] = 1;
     out[1106] = 0;
-    let said = say::word(output, said, b"upper bits");
-    let said = tested(output, said, &out[..1536]);
+    tested(output, "upper bits", &out)?;
     out[1086] = 0;
     out[1090] = 1;
-    let said = say::word(output, said, b"of one event");
-    tested(output, said, &out[..1536])
+    tested(output, "of one event", &out)
 }

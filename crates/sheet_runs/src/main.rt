@@ -5,13 +5,20 @@
 
 mod cases;
 
+use std::io::{Result, Write};
+use stream::Unwritten;
+
+fn run<W: Write>(output: &mut W) -> Result<()> {
+    cases::paper(output)?;
+    cases::lengths(output)?;
+    cases::rooms(output)?;
+    cases::full(output)?;
+    cases::damaged(output)?;
+    cases::upper(output)
+}
+
 fn main(rt: HostRuntime) {
-    let mut output = rt.stdout();
-    let said = cases::paper(&mut output, true);
-    let said = cases::lengths(&mut output, said);
-    let said = cases::rooms(&mut output, said);
-    let said = cases::full(&mut output, said);
-    let said = cases::damaged(&mut output, said);
-    let written = cases::upper(&mut output, said);
-    stream::tell_unwritten(&mut rt.stderr(), written);
+    if run(&mut rt.stdout()).is_err() {
+        let _ = eprintln!(rt; "{}", Unwritten);
+    }
 }

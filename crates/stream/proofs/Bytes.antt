@@ -1,64 +1,63 @@
 -- What one read and one write of known bytes make of a reading and of a writing.
 -- Assumes nothing.
-use Rattle.std.proofs.Common.{◌≡◌, ℕ, zero, suc, ◌+◌, ◌-◌, ◌<◌, ◌≤◌, min, List, ◌++◌, Option, Result, Ok, Err, refl, sym, ap, ◌∙◌, subst, arith, length, take, drop, drop_at, le_refl, append-nil, length-take-le}
+use Rattle.std.proofs.Common.{◌≡◌, ℕ, zero, suc, ◌+◌, ◌-◌, ◌<◌, ◌≤◌, List, ◌++◌, Option, Result, Ok, Err, Continue, Break, refl, sym, ap, ◌∙◌, subst, arith, length, take, drop, drop_at, le_refl, append-nil, length-take-le}
 use Rattle.std.proofs.lemmas.List.{take_rest}
 use Rattle.std.proofs.lemmas.Slice.{take-put_mid_below}
 use Rattle.std.specs.Io.{ReadsAtMost, WritesAtMost}
-use Rattle.std.specs.Io.KnownBytes.{Appends, Consumes, ReadConsumes, WriteAppends}
+use Rattle.std.specs.Io.KnownBytes.{Appends, Consumes, ReadConsumes, WriteAppends, IsAtEnd}
 use Rattle.std.proofs.KnownBytes.{Appends-trans, Appends-kept, Consumes-trans, Consumes-kept}
 use borrow.Rule.Slice.PartMut.{put_mid, post_of}
 use lib.Seq.{take-add, take-append-le}
-use Rattle.stream.specs.declared.Reading.{Reading}
-use Rattle.stream.specs.declared.Reading.TheVariants.{Whole, Failed}
-use Rattle.stream.specs.declared.ReadStep.TheVariants as read_step
-use Rattle.stream.specs.declared.WriteStep.TheVariants as write_step
-use Rattle.stream.specs.Steps.{moved, after_read, after_write}
-use Rattle.stream.specs.Whole.{ReadsWhole}
+use Rattle.stream.specs.declared.Unread.{Unread}
+use Rattle.stream.specs.declared.Unwritten.{Unwritten}
+use Rattle.stream.specs.Steps.{after_read, after_write, further}
 
 module _ {E : Type 0} (a b c : Option (List ℕ)) (front buf : List ℕ) (at room : ℕ) where
   -- a read after which the reading goes on took bytes
-  pub reads_more : (r : Result ℕ E) (p : ℕ) → read_step.On p ≡ after_read (moved r) at room → ReadsAtMost r buf → ReadConsumes b c r buf
+  pub reads_more : (r : Result ℕ E) (p : ℕ) → after_read r at room ≡ Ok (Continue p) → ReadsAtMost r buf → ReadConsumes b c r buf
       → length buf ≡ room - at → at < room → Consumes a b front
       → (n : ℕ) × (p ≡ at + n) × (n ≤ length buf) × Consumes a c (front ++ take n buf)
-  unfolding after_read moved
+  unfolding after_read
   reads_more (Ok zero) p e w t l h f = cc e
   reads_more (Ok (suc k)) p e w t l h f =
       let fits : suc k ≤ length buf = w.0 in
-      let q : p ≡ min (at + suc k) room = cc e in
+      let q : further at room (suc k) ≡ p = cc e in
       (suc k, omega arith, fits, Consumes-trans _ _ _ _ _ f t.0)
   reads_more (Err x) p e w t l h f = cc e
 
+  -- one after which it is over found the end
+  pub reads_no_more : (r : Result ℕ E) (n : ℕ) → after_read r at room ≡ Ok (Break n) → ReadConsumes b c r buf
+      → 0 < length buf → Consumes a b front → Consumes a c front × IsAtEnd c
+  unfolding after_read
+  reads_no_more (Ok zero) n e t l f = (subst (Consumes a c) (append-nil front) (Consumes-trans _ _ _ _ _ f t.0), t.1 refl l)
+  reads_no_more (Ok (suc k)) n e t l f = cc e
+  reads_no_more (Err x) n e t l f = cc e
+
+  -- and one after which it has failed took none
+  pub reads_none : (r : Result ℕ E) (u : Unread) → after_read r at room ≡ Err u → ReadConsumes b c r buf → Consumes a b front → Consumes a c front
+  unfolding after_read
+  reads_none (Ok zero) u e t f = cc e
+  reads_none (Ok (suc k)) u e t f = cc e
+  reads_none (Err x) u e t f = Consumes-kept _ _ _ _ f t
+
   -- a write after which the writing goes on took bytes
-  pub writes_more : (r : Result ℕ E) (p : ℕ) → write_step.On p ≡ after_write (moved r) at room → WritesAtMost r buf → WriteAppends b c r buf
+  pub writes_more : (r : Result ℕ E) (p : ℕ) → after_write r at room ≡ Ok p → WritesAtMost r buf → WriteAppends b c r buf
       → length buf ≡ room - at → at < room → Appends a b front
       → (n : ℕ) × (p ≡ at + n) × (n ≤ length buf) × Appends a c (front ++ take n buf)
-  unfolding after_write moved
+  unfolding after_write
   writes_more (Ok zero) p e w t l h f = cc e
   writes_more (Ok (suc k)) p e w t l h f =
       let fits : suc k ≤ length buf = w in
-      let q : p ≡ min (at + suc k) room = cc e in
+      let q : further at room (suc k) ≡ p = cc e in
       (suc k, omega arith, fits, Appends-trans _ _ _ _ _ f t)
   writes_more (Err x) p e w t l h f = cc e
 
-  -- and one after which it is over took none
-  pub writes_no_more : (r : Result ℕ E) → write_step.Failed ≡ after_write (moved r) at room → WriteAppends b c r buf → Appends a b front → Appends a c front
-  unfolding after_write moved
-  writes_no_more (Ok zero) e t f = subst (Appends a c) (append-nil front) (Appends-trans _ _ _ _ _ f t)
-  writes_no_more (Ok (suc k)) e t f = cc e
-  writes_no_more (Err x) e t f = Appends-kept _ _ _ _ f t
-
--- a read after which the reading is over took none, and the reading counts what was taken before
-module _ {E : Type 0} (a b c : Option (List ℕ)) (buf room : List ℕ) (at : ℕ) where
-  pub reads_no_more : (r : Result ℕ E) (s : Reading) → read_step.Stop s ≡ after_read (moved r) at (length room) → ReadConsumes b c r buf
-      → 0 < length buf → at < length room → Consumes a b (take at room) → ReadsWhole a c s room
-  unfolding after_read moved
-  reads_no_more (Ok zero) s e t l h f =
-      let q : Whole at ≡ s = cc e in
-      subst (λ x. ReadsWhole a c x room) q (subst (Consumes a c) (append-nil (take at room)) (Consumes-trans _ _ _ _ _ f t.0), λ _. t.1 refl l)
-  reads_no_more (Ok (suc k)) s e t l h f = cc e
-  reads_no_more (Err x) s e t l h f =
-      let q : Failed ≡ s = cc e in
-      subst (λ y. ReadsWhole a c y room) q (at, h, Consumes-kept _ _ _ _ f t)
+  -- and one after which it has failed took none
+  pub writes_none : (r : Result ℕ E) (u : Unwritten) → after_write r at room ≡ Err u → WriteAppends b c r buf → Appends a b front → Appends a c front
+  unfolding after_write
+  writes_none (Ok zero) u e t f = subst (Appends a c) (append-nil front) (Appends-trans _ _ _ _ _ f t)
+  writes_none (Ok (suc k)) u e t f = cc e
+  writes_none (Err x) u e t f = Appends-kept _ _ _ _ f t
 
 -- ---- what was written stands at the front of the text
 pub take_more : (at n p : ℕ) (text : List ℕ) → p ≡ at + n → take at text ++ take n (take (length text - at) (drop at text)) ≡ take p text

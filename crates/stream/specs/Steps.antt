@@ -1,40 +1,28 @@
--- What one read makes of a reading, and one write of a writing. std's `read` and `write` give an error, or how many bytes they moved: as one number -1, or how many (`moved`). A read gives 0 at the end of the input.
--- Stated for every number given, every place and every room. Assumes nothing.
-use Rattle.std.specs.Prelude.{ℕ, zero, suc, ◌+◌, ◌≤◌, ◌≡◌, min, ℤ, pos, negsuc, Result, Ok, Err}
-use Rattle.stream.specs.declared.Reading.{Reading}
-use Rattle.stream.specs.declared.Reading.TheVariants.{Whole, Failed}
-use Rattle.stream.specs.declared.ReadStep.{ReadStep}
-use Rattle.stream.specs.declared.ReadStep.TheVariants as read_step
-use Rattle.stream.specs.declared.WriteStep.{WriteStep}
-use Rattle.stream.specs.declared.WriteStep.TheVariants as write_step
-
--- what a read or a write gave, as one number: -1 where it failed, else how many bytes it moved
-unfoldable pub moved : {E : Type 0} → Result ℕ E → ℤ
-moved (Ok n) = pos n
-moved (Err e) = negsuc 0
-
--- what that number may be of a call for at most n bytes
-abbrev pub Moved : ℕ → ℤ → Type 0
-Moved n (pos k) = k ≤ n
-Moved n (negsuc k) = k ≡ 0
+-- What one read makes of a reading, and one write of a writing. std's `read` and `write` give an error, or how many bytes they moved. A read gives 0 at the end of the input.
+-- Stated for everything given, every place and every room. Assumes nothing.
+use Rattle.std.specs.Prelude.{ℕ, zero, suc, ◌+◌, ◌≤◌, min, Result, Ok, Err}
+use Rattle.std.specs.declared.ops.ControlFlow.{ControlFlow}
+use Rattle.std.specs.declared.ops.ControlFlow.TheVariants.{Break, Continue}
+use Rattle.stream.specs.declared.Unread.{Unread}
+use Rattle.stream.specs.declared.Unwritten.{Unwritten}
 
 -- `k` bytes further than `at`, and never past the room
 abbrev pub further : ℕ → ℕ → ℕ → ℕ
 further at room k = min (at + k) room
 
--- a reading that has filled its room up to `at`, after one more read: failed where it gave -1 (as every number below zero), over where it gave 0, else that many bytes further
-unfoldable pub after_read : ℤ → ℕ → ℕ → ReadStep
-after_read (negsuc _) at room = read_step.Stop Failed
-after_read (pos zero) at room = read_step.Stop (Whole at)
-after_read (pos (suc k)) at room = read_step.On (further at room (suc k))
+-- a reading that has filled its room up to `at`, after one more read: failed where it gave an error, over where it gave 0, else that many bytes further
+unfoldable pub after_read : {E : Type 0} → Result ℕ E → ℕ → ℕ → Result (ControlFlow ℕ ℕ) Unread
+after_read (Err _) at room = Err (record {})
+after_read (Ok zero) at room = Ok (Break at)
+after_read (Ok (suc k)) at room = Ok (Continue (further at room (suc k)))
 
--- a writing that has written up to `at`, after one more write: failed where it gave -1 (as every number below zero) or took nothing, else that many bytes further
-unfoldable pub after_write : ℤ → ℕ → ℕ → WriteStep
-after_write (negsuc _) at room = write_step.Failed
-after_write (pos zero) at room = write_step.Failed
-after_write (pos (suc k)) at room = write_step.On (further at room (suc k))
+-- a writing that has written up to `at`, after one more write: failed where it gave an error or took nothing, else that many bytes further
+unfoldable pub after_write : {E : Type 0} → Result ℕ E → ℕ → ℕ → Result ℕ Unwritten
+after_write (Err _) at room = Err (record {})
+after_write (Ok zero) at room = Err (record {})
+after_write (Ok (suc k)) at room = Ok (further at room (suc k))
 
 -- what a reading says of a room: the bytes that it counts stand in it
-abbrev pub Within : ℕ → Reading → Type 0
-Within room (Whole n) = n ≤ room
-Within room Failed = Unit
+abbrev pub Within : ℕ → Result ℕ Unread → Type 0
+Within room (Ok n) = n ≤ room
+Within room (Err _) = Unit

@@ -5,7 +5,7 @@ use Rattle.exporting.proofs.Tracks.{tracks-within}
 use Rattle.desk.proofs.export_sheet.Goals as goal
 
 pub slice_bounds-page-end : goal.slice_bounds-page-end
-slice_bounds-page-end g c = omega (arith, tracks-within _ _ _ _ c.export_tracks-done.ensures, c.export_tracks-done.auto.out)
+slice_bounds-page-end g c = omega (arith, tracks-within _ _ _ _ c.in_ok-m.ensures, c.export_tracks.auto.out)
 
-pub slice_bounds-print-end : goal.slice_bounds-print-end
-slice_bounds-print-end g c = sym (length-take-le _ _ (omega (arith, tracks-within _ _ _ _ c.export_tracks-done.ensures, c.export_tracks-done.auto.out)))
+pub slice_bounds-write_whole-end : goal.slice_bounds-write_whole-end
+slice_bounds-write_whole-end g c = sym (length-take-le _ _ (omega (arith, tracks-within _ _ _ _ c.in_ok-m.ensures, c.export_tracks.auto.out)))

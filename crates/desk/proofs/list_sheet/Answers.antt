@@ -7,5 +7,5 @@ use Rattle.desk.proofs.list_sheet.Goals as goal
 pub slice_bounds-page-end : goal.slice_bounds-page-end
 slice_bounds-page-end g c = rw (c.list-m.ensures.0, c.list-m.ensures.1) (text-within _ 0 _)
 
-pub slice_bounds-print-end : goal.slice_bounds-print-end
-slice_bounds-print-end g c = sym (length-take-le _ _ (rw (c.list-m.ensures.0, c.list-m.ensures.1) (text-within _ 0 _)))
+pub slice_bounds-write_whole-end : goal.slice_bounds-write_whole-end
+slice_bounds-write_whole-end g c = sym (length-take-le _ _ (rw (c.list-m.ensures.0, c.list-m.ensures.1) (text-within _ 0 _)))

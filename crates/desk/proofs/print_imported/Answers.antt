@@ -5,7 +5,7 @@ use Rattle.importing.proofs.Settled.{settles_within}
 use Rattle.desk.proofs.print_imported.Goals as goal
 
 pub slice_bounds-out-end : goal.slice_bounds-out-end
-slice_bounds-out-end g c = omega (arith, settles_within _ _ _ _ _ _ c.settle-done.ensures, c.settle-done.auto.out)
+slice_bounds-out-end g c = omega (arith, settles_within _ _ _ _ _ _ c.in_ok-n.ensures.settles, c.settle.auto.out)
 
-pub slice_bounds-print-end : goal.slice_bounds-print-end
-slice_bounds-print-end g c = sym (length-take-le _ _ (omega (arith, settles_within _ _ _ _ _ _ c.settle-done.ensures, c.settle-done.auto.out)))
+pub slice_bounds-write_whole-end : goal.slice_bounds-write_whole-end
+slice_bounds-write_whole-end g c = sym (length-take-le _ _ (omega (arith, settles_within _ _ _ _ _ _ c.in_ok-n.ensures.settles, c.settle.auto.out)))
