@@ -18,90 +18,83 @@ struct Case {
     stamp: u32,
 }
 
+// The lever of post 0 reversed at stamp 0, with nothing before it; each case says what it has else.
+const FIRST: Case = Case {
+    before: 0,
+    number: Event::Reverse as u32,
+    post: 0,
+    stamp: 0,
+};
+
 const CASES: [Case; 12] = [
     // 7: the lever is normal already
     Case {
-        before: 0,
         number: Event::Normal as u32,
-        post: 0,
-        stamp: 0,
+        ..FIRST
     },
     // 6: kind 1 has no announcement to send
     Case {
-        before: 0,
         number: Event::Announce as u32,
         post: 2,
-        stamp: 0,
+        ..FIRST
     },
     // 2: three posts have the sections 0 and 1
     Case {
-        before: 0,
         number: Event::Arrive as u32,
         post: 2,
-        stamp: 0,
+        ..FIRST
     },
     // 14: nothing is under way
     Case {
-        before: 0,
         number: Event::Arrive as u32,
-        post: 0,
-        stamp: 0,
+        ..FIRST
     },
     // 3, before 2: there is no event 16, and no post 40
     Case {
-        before: 0,
         number: 16,
         post: 40,
-        stamp: 0,
+        ..FIRST
     },
     // 0: 2^31 - 1 after the last is not behind
     Case {
-        before: 0,
-        number: Event::Reverse as u32,
-        post: 0,
         stamp: 2147483647,
+        ..FIRST
     },
     // 4: 2^31 after the last reads below zero
     Case {
-        before: 0,
-        number: Event::Reverse as u32,
-        post: 0,
         stamp: 2147483648,
+        ..FIRST
     },
     // 15: RL is up
     Case {
-        before: 0,
         number: Event::Restore as u32,
-        post: 0,
-        stamp: 0,
+        ..FIRST
     },
     // 16: the announcement is under way
     Case {
         before: 1,
         number: Event::Restore as u32,
-        post: 0,
-        stamp: 0,
+        ..FIRST
     },
     // 17: An is up at post 1
     Case {
         before: 2,
         number: Event::Restore as u32,
-        post: 0,
-        stamp: 0,
+        ..FIRST
     },
     // 13: post 1 has not announced onward, so its RL is up
     Case {
         before: 3,
         number: Event::Release as u32,
         post: 1,
-        stamp: 0,
+        ..FIRST
     },
     // 0: now it has
     Case {
         before: 4,
         number: Event::Release as u32,
         post: 1,
-        stamp: 0,
+        ..FIRST
     },
 ];
 

@@ -23,110 +23,96 @@ struct Case {
     stamp: u32,
 }
 
+// The lever of post 0 reversed at stamp 0, the last stamp before the clock's turn.
+const TURN: Case = Case {
+    taken: 0,
+    last: 4294967295,
+    event: Event::Reverse,
+    post: 0,
+    stamp: 0,
+};
+
+// The same with the head of a fresh line.
+const START: Case = Case {
+    taken: 0,
+    last: 0,
+    event: Event::Reverse,
+    post: 0,
+    stamp: 0,
+};
+
 const CASES: [Case; 13] = [
     // 0 1 5 0: six after the last, over the clock's turn
-    Case {
-        taken: 0,
-        last: 4294967295,
-        event: Event::Reverse,
-        post: 0,
-        stamp: 5,
-    },
+    Case { stamp: 5, ..TURN },
     // 4 0 4294967295 1: 2^31 after the last
     Case {
-        taken: 0,
-        last: 4294967295,
-        event: Event::Reverse,
-        post: 0,
         stamp: 2147483647,
+        ..TURN
     },
     // 0 1 2147483646 0: 2^31 - 1 after it
     Case {
-        taken: 0,
-        last: 4294967295,
-        event: Event::Reverse,
-        post: 0,
         stamp: 2147483646,
+        ..TURN
     },
     // 0 1 4294967295 0: equal
     Case {
-        taken: 0,
-        last: 4294967295,
-        event: Event::Reverse,
-        post: 0,
         stamp: 4294967295,
+        ..TURN
     },
     // 4 0 4294967295 1: one before it
     Case {
-        taken: 0,
-        last: 4294967295,
-        event: Event::Reverse,
-        post: 0,
         stamp: 4294967294,
+        ..TURN
     },
     // 5 1000000 0 1: 1,000,000 events already taken
     Case {
         taken: 1000000,
-        last: 0,
-        event: Event::Reverse,
-        post: 0,
-        stamp: 0,
+        ..START
     },
     // 0 1000000 0 0: the last event of a session
     Case {
         taken: 999999,
-        last: 0,
-        event: Event::Reverse,
-        post: 0,
-        stamp: 0,
+        ..START
     },
     // 1 1000001 0 1: 'Events taken are at most 1,000,000', else the line is not valid
     Case {
         taken: 1000001,
-        last: 0,
-        event: Event::Reverse,
-        post: 0,
-        stamp: 0,
+        ..START
     },
     // 5 1000000 9 1: 5 before 4
     Case {
         taken: 1000000,
         last: 9,
-        event: Event::Reverse,
-        post: 0,
         stamp: 8,
+        ..START
     },
     // 2 1000000 0 1: 2 before 5
     Case {
         taken: 1000000,
-        last: 0,
         event: Event::Arrive,
         post: 2,
-        stamp: 0,
+        ..START
     },
     // 4 0 9 1: 4 before 6
     Case {
-        taken: 0,
         last: 9,
         event: Event::Announce,
         post: 2,
         stamp: 8,
+        ..START
     },
     // 7 0 0 1: refused by its own list, the stamp 9 is not kept
     Case {
-        taken: 0,
-        last: 0,
         event: Event::Normal,
-        post: 0,
         stamp: 9,
+        ..START
     },
     // 0 1 9 1: a passage with An down is taken with no effect on the records
     Case {
-        taken: 0,
-        last: 0,
         event: Event::Pass,
         post: 1,
         stamp: 9,
+        ..START
     },
 ];
 
