@@ -51,15 +51,15 @@ impl From<importing::Refusal> for Stop {
 }
 
 impl Stop {
-    // Says it on `errors`, which is standard error, in one line. Where that fails too, nothing is left to do.
+    // Says it on `errors`, which is standard error, in one line, written whole. Where that fails too, nothing is left to do.
     #[tactic(auto, using(crate::proofs::Fronts::stands, crate::proofs::Fronts::front))]
     pub fn tell<E: Write>(self, errors: &mut E) {
         match self {
             Stop::Unread(unread) => {
-                let _ = writeln!(errors, "{unread}");
+                let _ = unread.tell(errors);
             }
             Stop::Unwritten(unwritten) => {
-                let _ = writeln!(errors, "{unwritten}");
+                let _ = unwritten.tell(errors);
             }
             Stop::Refused {
                 number,
@@ -71,8 +71,8 @@ impl Stop {
                 let _ = stream::write_whole(errors, &line[..m]);
             }
             Stop::Unasked => {
-                let usage = "usage: desk [work | why POSITION | export | import] <INPUT";
-                let _ = writeln!(errors, "{usage}");
+                let usage = b"usage: desk [work | why POSITION | export | import] <INPUT\n";
+                let _ = stream::write_whole(errors, usage);
             }
         }
     }

@@ -1,7 +1,10 @@
 // The cases marked P, each on a fresh line of kinds 0, 4, 1. 01, 'Proved and run examples'. Prints `P`, the case, the answer.
 use crate::row;
 use relay::{Event, Form};
-use std::io::{Result, Write};
+use std::fmt::{Result, Write};
+
+// What each line begins with.
+const LINE: &str = "P";
 
 const KINDS: [u32; 3] = [
     Form::Origin as u32,
@@ -98,12 +101,12 @@ const CASES: [Case; 12] = [
     },
 ];
 
-pub fn run<W: Write>(output: &mut W) -> Result<()> {
+pub fn run<W: Write>(output: &mut W) -> Result {
     for (i, case) in CASES.iter().enumerate() {
         let mut line = [row::LITTER; KINDS.len()];
         let head = row::session(&mut line, &KINDS, case.before);
         let told = lent::desk_event(&mut line, head, case.number, case.post, case.stamp);
-        writeln!(output, "P {} {}", i + 1, told.answer)?;
+        writeln!(output, "{LINE} {} {}", i + 1, told.answer)?;
     }
     Ok(())
 }

@@ -5,7 +5,7 @@
 use crate::row;
 use lent::array::{Kept, ROOM};
 use relay::{Event, Head, Post};
-use std::io::{Result, Write};
+use std::fmt::{Result, Write};
 
 // The first `n` records of the room are lent to the event; all are compared, those past the row too.
 fn case<W: Write>(
@@ -14,7 +14,7 @@ fn case<W: Write>(
     room: [Post; ROOM],
     n: usize,
     head: Head,
-) -> Result<()> {
+) -> Result {
     let Kept { told, posts } = lent::array::event_on(room, n, head, Event::Release as u32, 1, 0);
     let same = u8::from(posts == room && told.head == head);
     let valid = u8::from(lent::array::valid_on(room, n, head));
@@ -22,7 +22,7 @@ fn case<W: Write>(
 }
 
 // 02, item 2: the jam is bit 8, 'down .. at the origin'.
-fn buttons<W: Write>(output: &mut W, room: [Post; ROOM], head: Head) -> Result<()> {
+fn buttons<W: Write>(output: &mut W, room: [Post; ROOM], head: Head) -> Result {
     // 22 1 1: at post 1 it is no damage, and the release is refused
     let mut jam = room;
     jam[1].word |= relay::JAM;
@@ -34,7 +34,7 @@ fn buttons<W: Write>(output: &mut W, room: [Post; ROOM], head: Head) -> Result<(
 }
 
 // '2 to 32 records': one intermediate post more, each record right; and fewer than two.
-fn lengths<W: Write>(output: &mut W, room: [Post; ROOM], head: Head) -> Result<()> {
+fn lengths<W: Write>(output: &mut W, room: [Post; ROOM], head: Head) -> Result {
     let mut long = room;
     long[32] = room[31];
     long[31] = room[30];
@@ -43,7 +43,7 @@ fn lengths<W: Write>(output: &mut W, room: [Post; ROOM], head: Head) -> Result<(
     case(output, "empty", room, 0, head)
 }
 
-pub fn run<W: Write>(output: &mut W) -> Result<()> {
+pub fn run<W: Write>(output: &mut W) -> Result {
     let mut room = [row::LITTER; ROOM];
     let head = row::session(&mut room[..32], &row::intermediate::<32>(), 4);
     // 0 0 1: as it is, the row is valid and takes the event

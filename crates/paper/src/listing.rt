@@ -2,7 +2,10 @@
 // Prints one line per event, position, event, post, answer; then the section, S, section, a, r, x, q, e, y, v, g, h.
 use crate::row;
 use relay::{Event, Form, Post};
-use std::io::{Result, Write};
+use std::fmt::{Result, Write};
+
+// What the line of a section begins with.
+const SECTION: &str = "S";
 
 const KINDS: [u32; 2] = [Form::Origin as u32, Form::Terminus as u32];
 
@@ -41,13 +44,14 @@ const EVENTS: [(Event, u32); 15] = [
 ];
 
 // The section between the posts `p` and `d`; h is 1 if RL is down.
-fn section<W: Write>(output: &mut W, p: Post, d: Post) -> Result<()> {
+fn section<W: Write>(output: &mut W, p: Post, d: Post) -> Result {
     let h = u8::from(p.word & relay::RL == 0);
-    write!(output, "S 0 {} {} {} {} {}", p.a, d.r, p.x, d.q, d.e)?;
+    write!(output, "{SECTION} {} {} {}", 0, p.a, d.r)?;
+    write!(output, " {} {} {}", p.x, d.q, d.e)?;
     writeln!(output, " {} {} {} {h}", p.y, p.v, p.g)
 }
 
-pub fn run<W: Write>(output: &mut W) -> Result<()> {
+pub fn run<W: Write>(output: &mut W) -> Result {
     let mut line = [row::LITTER; KINDS.len()];
     let mut head = row::session(&mut line, &KINDS, 0);
     for (i, (event, post)) in EVENTS.iter().enumerate() {

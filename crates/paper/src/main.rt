@@ -10,10 +10,10 @@ mod row;
 mod stamps;
 mod starts;
 
-use std::io::{Result, Write};
-use stream::Unwritten;
+use std::fmt::{Result, Write};
+use stream::{Printer, Unwritten};
 
-fn run<W: Write>(output: &mut W) -> Result<()> {
+fn run<W: Write>(output: &mut W) -> Result {
     cases::run(output)?;
     listing::run(output)?;
     damage::run(output)?;
@@ -22,7 +22,8 @@ fn run<W: Write>(output: &mut W) -> Result<()> {
 }
 
 fn main(rt: HostRuntime) {
-    if run(&mut rt.stdout()).is_err() {
-        let _ = eprintln!(rt; "{}", Unwritten);
+    let output = &mut rt.stdout();
+    if run(&mut Printer { output }).is_err() {
+        let _ = Unwritten.tell(&mut rt.stderr());
     }
 }

@@ -5,7 +5,10 @@
 use crate::row;
 use lent::array::ROOM;
 use relay::{Event, Form, Head};
-use std::io::{Result, Write};
+use std::fmt::{Result, Write};
+
+// What each line begins with.
+const LINE: &str = "E";
 
 const KINDS: [u32; 3] = [
     Form::Origin as u32,
@@ -117,7 +120,7 @@ const CASES: [Case; 13] = [
 ];
 
 // All records are compared, those past the row too.
-pub fn run<W: Write>(output: &mut W) -> Result<()> {
+pub fn run<W: Write>(output: &mut W) -> Result {
     let mut fresh = [row::LITTER; ROOM];
     row::session(&mut fresh[..KINDS.len()], &KINDS, 0);
     for (i, case) in CASES.iter().enumerate() {
@@ -131,7 +134,7 @@ pub fn run<W: Write>(output: &mut W) -> Result<()> {
         let (taken, last) = (kept.told.head.taken, kept.told.head.last);
         writeln!(
             output,
-            "E {} {} {taken} {last} {same}",
+            "{LINE} {} {} {taken} {last} {same}",
             i + 1,
             kept.told.answer
         )?;

@@ -3,10 +3,10 @@
 // Prints `T`, the case, the answer, the head (events taken, last stamp), whether the records are as lent, whether they are valid now.
 use crate::row;
 use lent::array::{Kept, ROOM};
-use std::io::{Result, Write};
+use std::fmt::{Result, Write};
 
 // A start of the first `n` records of the room from the table; all are compared, those past the row too.
-fn case<W: Write>(output: &mut W, name: &str, n: usize, kinds: &[u32]) -> Result<()> {
+fn case<W: Write>(output: &mut W, name: &str, n: usize, kinds: &[u32]) -> Result {
     let before = [row::LITTER; ROOM];
     let Kept { told, posts } = lent::array::start_on(before, n, kinds, 7);
     let (taken, last) = (told.head.taken, told.head.last);
@@ -19,7 +19,7 @@ fn case<W: Write>(output: &mut W, name: &str, n: usize, kinds: &[u32]) -> Result
     )
 }
 
-pub fn run<W: Write>(output: &mut W) -> Result<()> {
+pub fn run<W: Write>(output: &mut W) -> Result {
     // 1 0 0 1 0, as all but the last: 2 to 32 posts
     case(output, "empty", 0, &[])?;
     case(output, "one", 1, &[0])?;

@@ -28,6 +28,6 @@ fn main(rt: HostRuntime) {
     let mut out = [0u8; 1024];
     let _ = lent_sheet::write(&kinds, 0, &events, &mut out);
     if let Err(failed) = stream::write_whole(&mut rt.stdout(), &out) {
-        let _ = eprintln!(rt; "{failed}");
+        let _ = failed.tell(&mut rt.stderr());
     }
 }

@@ -5,10 +5,10 @@
 
 mod cases;
 
-use std::io::{Result, Write};
-use stream::Unwritten;
+use std::fmt::{Result, Write};
+use stream::{Printer, Unwritten};
 
-fn run<W: Write>(output: &mut W) -> Result<()> {
+fn run<W: Write>(output: &mut W) -> Result {
     cases::paper(output)?;
     cases::lengths(output)?;
     cases::rooms(output)?;
@@ -18,7 +18,8 @@ fn run<W: Write>(output: &mut W) -> Result<()> {
 }
 
 fn main(rt: HostRuntime) {
-    if run(&mut rt.stdout()).is_err() {
-        let _ = eprintln!(rt; "{}", Unwritten);
+    let output = &mut rt.stdout();
+    if run(&mut Printer { output }).is_err() {
+        let _ = Unwritten.tell(&mut rt.stderr());
     }
 }

@@ -6,7 +6,8 @@ ghost use Rattle.std.specs.Prelude.{◌≡◌, Some, length};
 ghost use Rattle.stream.specs.Steps.{after_read, after_write, Within};
 ghost use Rattle.stream.specs.Steps.{further as Steps·further};
 ghost use Rattle.stream.specs.Whole.{ReadsWhole, WritesWhole};
-ghost use Rattle.stream.specs.Lines.{unread, unwritten};
+ghost use Rattle.std.specs.Io.KnownBytes.{Appends};
+ghost use Rattle.stream.specs.Lines.{line, unread, unwritten};
 
 use std::io::{Read, Write};
 use std::ops::ControlFlow;
@@ -34,6 +35,41 @@ impl fmt::Display for Unwritten {
 
     fn fmt<W: fmt::Write>(&self, f: &mut fmt::Formatter<W>) -> fmt::Result {
         write!(f, "the output could not be written")
+    }
+}
+
+impl Unread {
+    // Tells it on `errors`, which is standard error, in one line. The line and its end are one text, so that no other program's line comes between them.
+    pub fn tell<E: Write>(self, errors: &mut E) -> Result<(), Unwritten>
+        ensures { WritesWhole (E.contents errors.old) (E.contents errors.new) result (line unread) }
+    {
+        write_whole(errors, b"the input could not be read\n")
+    }
+}
+
+impl Unwritten {
+    // Tells it likewise.
+    pub fn tell<E: Write>(self, errors: &mut E) -> Result<(), Unwritten>
+        ensures { WritesWhole (E.contents errors.old) (E.contents errors.new) result (line unwritten) }
+    {
+        write_whole(errors, b"the output could not be written\n")
+    }
+}
+
+// An output that `write!` and `writeln!` print to. Each piece of what is printed is written by `write_whole`, so a write that fails or that a signal interrupts is the last.
+#[derive(Drop)]
+pub struct Printer<'a, W> {
+    pub output: &'a mut W,
+}
+
+impl<W: Write> fmt::Write for Printer<'_, W> {
+    ghost write_str_gives = { λ before text after. Appends (W.contents before.output.now) (W.contents after.output.now) text };
+
+    fn write_str(&mut self, s: &str) -> fmt::Result {
+        match write_whole(self.output, s.as_bytes()) {
+            Ok(()) => Ok(()),
+            Err(_) => Err(fmt::Error),
+        }
     }
 }
 
