@@ -9,6 +9,7 @@ pub mod Follows
 pub mod Ends
 pub mod Runs
 pub mod Settled
+pub mod One
 pub mod Outcomes
 pub mod Answers
 pub mod Calls

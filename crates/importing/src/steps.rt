@@ -101,6 +101,19 @@ fn mode_of(m: Mode) -> Mode
     }
 }
 
+// The same records stand, and the next byte stands elsewhere.
+pub fn move_to(s: State, mode: Mode, place: u32, mark: u64, marks: Marks) -> State
+    ensures { result ≡ moved s mode place mark marks }
+{
+    State {
+        mode,
+        place,
+        mark,
+        marks,
+        ..s
+    }
+}
+
 // The last of five marks.
 fn push(k: Marks, m: u64) -> Marks
     ensures { result ≡ pushed k m }
@@ -136,13 +149,7 @@ fn add(s: State, b: u8) -> State
 fn end_field(s: State, mode: Mode) -> State
     ensures { result ≡ ended mode s }
 {
-    State {
-        mode,
-        place: place_next(s.place),
-        mark: 0,
-        marks: push(s.marks, s.mark),
-        ..s
-    }
+    move_to(s, mode, place_next(s.place), 0, push(s.marks, s.mark))
 }
 
 // One byte.

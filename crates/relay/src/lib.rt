@@ -38,6 +38,9 @@ pub const ALL: u32 = 511;
 // The number returned where nothing is refused; `Refusal` has the others.
 pub const TAKEN: u32 = 0;
 
+// The number of the last event.
+pub const LAST_EVENT: u32 = Event::Free as u32;
+
 // The most events of a session.
 pub const MOST_EVENTS: u32 = 1000000;
 

@@ -4,13 +4,17 @@ use Prim.Native.Nat.{ℕ, ◌-◌, ◌≤◌, ◌<◌}
 use mathlib.Core.Path.{◌≡◌, sym, ap, ◌∙◌}
 use mathlib.Core.Bool.{true, false, and-false}
 use mathlib.Core.List.{List}
-use borrow.Author.Tests.{eq-eqb, le-leb, lt-leb}
+use borrow.Author.Tests.{eq-eqb, ne_eqb, le-leb, lt-leb}
 use lib.Dec.{eqb, leb}
 use lib.ListN.{length, get_or, take}
 use lib.Seq.{get_or-take}
 use Rattle.relay.proofs.Truth.{split}
 use Rattle.sheet.specs.Entry.{post_of, answer_of}
 use Rattle.sheet.specs.Reading.{verdict_up_to, decode_tracked}
+use Rattle.sheet.specs.Refusals.{verdict_of_refusal}
+use Rattle.sheet.specs.declared.Verdict.{Verdict}
+use Rattle.sheet.specs.declared.refusal.Refusal.{Refusal}
+use Rattle.sheet.proofs.Refusals.{refuses}
 use Rattle.sheet.specs.Sheet.{Tracked}
 use Rattle.why.specs.Why.{no_such_refusal, event_at, track_at, speaks, as_worked, asked, since, since_when, since_in, since_up_to}
 
@@ -41,6 +45,12 @@ module _ (most : ℕ) (s : List ℕ) (k : ℕ) where
       → since (verdict_up_to most s).number (verdict_up_to most s).block (verdict_up_to most s).position ≡ since_up_to most s k
   unfolding since_up_to
   since-unread h = rw h
+
+  -- a refusal of the sheet in numbers, with its own position
+  pub told_unread : (r : Refusal) (p : ℕ) → verdict_of_refusal r ≡ verdict_up_to most s → p ≡ (verdict_of_refusal r).position
+      → since (verdict_of_refusal r).number (verdict_of_refusal r).block p ≡ since_up_to most s k
+  told_unread r p e h =
+      rw (h, e) (since-unread (ne_eqb (verdict_up_to most s).number 0 (λ z. refuses r (ap (λ (v : Verdict). v.number) e ∙ z))))
 
   module _ (z : (verdict_up_to most s).number ≡ 0) where
     pub since-read : since_in said k ≡ since_up_to most s k

@@ -16,7 +16,7 @@ use Rattle.sheet.specs.declared.Header.{Header}
 use Rattle.working.proofs.Rooms.{Read, read, unread}
 use Rattle.working.proofs.WorksTracks.{said_start}
 use Rattle.why.specs.Why.{event_at, track_at, speaks}
-use Rattle.why.proofs.Asked.{below_first, past_last, other-answer, is_asked, since-unread, since_not_asked, since_in_lem, event-read}
+use Rattle.why.proofs.Asked.{below_first, past_last, other-answer, is_asked, told_unread, since_not_asked, since_in_lem, event-read}
 use Rattle.why.proofs.since_when_tracks.Goals as goal
 use Rattle.why.proofs.since_when_tracks.Goals.{then-k-eq0-via-then-k-eq0, then-k-eq0-via-else-k-eq0+then-m-k}
 
@@ -32,7 +32,7 @@ pub returns-in_err-header : goal.returns-in_err-header
 returns-in_err-header c = let s = c.args.s.now in
     let u = unread s _ c.in_err-header.ensures.0 in
     let p = err_from_is_err_and c.from_residual.result c.from_residual.ensures.1 in
-    rw (p.1, p.2, u.1) (since-unread two_tracks s c.args.position u.0)
+    rw (p.1, p.2) (told_unread two_tracks s c.args.position _ _ u.1 refl)
 
 pub returns-then-k-eq0 : goal.returns-then-k-eq0
 returns-then-k-eq0 c = let s = c.args.s.now in
