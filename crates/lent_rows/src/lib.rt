@@ -41,12 +41,21 @@ pub fn beside_ok(own: &[Post], other: &[Post], circuit: u32, s: Head) -> bool
         && (kind == Circuit::Vibrated || are_apart(own, other))
 }
 
-// Whether the two tracks may be used together.
+// Whether two rows of these lengths may be the tracks of a circuit.
+fn alike(n: usize, m: usize, circuit: u32) -> bool
+    ensures { result ≡ (circuit_ok circuit && eqb n m) }
+{
+    tracks::circuit::circuit_ok(circuit) && n == m
+}
+
+// Whether the two tracks may be used together; what asks for no walk over a row comes first.
 #[tactic(auto, unfolding(tracks::specs::Circuit::valid_two, tracks::specs::Circuit::beside_ok))]
 pub fn desk_valid_tracks(first: &[Post], second: &[Post], circuit: u32, s: Head) -> bool
     ensures { result ≡ valid_two circuit first.now second.now s }
 {
-    lent::desk_valid(first, s) && beside_ok(first, second, circuit, s)
+    alike(first.len(), second.len(), circuit)
+        && lent::desk_valid(first, s)
+        && beside_ok(first, second, circuit, s)
 }
 
 // Alters the post or section `place` of the own row, and at most one neighbour of it, or says why the event is refused beside the other row; refused, the row is as it was.

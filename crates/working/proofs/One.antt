@@ -1,14 +1,20 @@
--- Each statement of a public call has one outcome: any two that satisfy it are equal. And what a refusal leaves.
+-- Each statement of a public call has one outcome: any two that satisfy it are equal, in numbers, as a panel is given them, and as results. And what a refusal leaves.
 -- Assumes nothing.
 use Prim.Native.Nat.{ℕ}
 use mathlib.Core.Bool.{false}
-use mathlib.Core.Path.{◌≡◌, sym, ap, ◌∙◌}
+use mathlib.Core.Path.{◌≡◌, refl, sym, ap, ◌∙◌}
 use mathlib.Core.List.{List}
 use lib.Dec.{eqb}
 use lib.ListN.{length}
 use Rattle.relay.proofs.Truth.{split}
+use Rattle.std.specs.Prelude.{Result, Ok, Err, IfOk}
 use Rattle.sheet.specs.Layout.{two_tracks}
-use Rattle.working.specs.Working.{work_verdict, work_of, worked_bytes, Works, work_verdict_up_to, work_tracks_of, worked_tracks_bytes, WorksTracks}
+use Rattle.sheet.specs.Reading.{verdict_at}
+use Rattle.sheet.specs.Refusals.{verdict_code}
+use Rattle.sheet.specs.declared.refusal.Refusal.{Refusal}
+use Rattle.sheet.proofs.Refusals.{outcome_one}
+use Rattle.working.specs.Working.{worked_of, worked_tracks_of, work_verdict, work_of, worked_bytes, Works, work_verdict_up_to, work_tracks_of, worked_tracks_bytes, WorksTracks}
+use Rattle.working.specs.declared.Session.{Session}
 use Rattle.working.specs.declared.Worked.{Worked}
 use Rattle.working.specs.declared.WorkedTracks.{WorkedTracks}
 
@@ -37,3 +43,20 @@ refused_work_tracks s out r end w n =
     (λ e. absurd (n (ap (λ (x : WorkedTracks). x.number) w.0 ∙ rw e)))
     (λ e. e) in
     w.1 ∙ rw no
+
+-- ---- as results: the numbers of a refusal, and the session that it ends with
+worked_verdict : (r : Result Session Refusal) → (λ (w : Worked). verdict_at w.number w.block w.position) (worked_of r) ≡ verdict_code r
+worked_verdict (Ok _) = refl
+worked_verdict (Err _) = refl
+
+pub worked_one : (end : Session) (r r' : Result Session Refusal) → IfOk r (λ z. z ≡ end) → IfOk r' (λ z. z ≡ end) → worked_of r ≡ worked_of r' → r ≡ r'
+worked_one end r r' h h' e =
+    outcome_one end r r' h h' (sym (worked_verdict r) ∙ ap (λ (w : Worked). verdict_at w.number w.block w.position) e ∙ worked_verdict r')
+
+tracks_verdict : (r : Result Session Refusal) → (λ (w : WorkedTracks). verdict_at w.number w.block w.position) (worked_tracks_of r) ≡ verdict_code r
+tracks_verdict (Ok _) = refl
+tracks_verdict (Err _) = refl
+
+pub worked_tracks_one : (end : Session) (r r' : Result Session Refusal) → IfOk r (λ z. z ≡ end) → IfOk r' (λ z. z ≡ end) → worked_tracks_of r ≡ worked_tracks_of r' → r ≡ r'
+worked_tracks_one end r r' h h' e =
+    outcome_one end r r' h h' (sym (tracks_verdict r) ∙ ap (λ (w : WorkedTracks). verdict_at w.number w.block w.position) e ∙ tracks_verdict r')

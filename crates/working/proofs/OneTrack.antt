@@ -1,6 +1,6 @@
 -- A sheet of one track among those of either form: its table, events and run are those of one track, with no line beside it. And any sheet that does not say 2 is refused as one of one track.
 -- Assumes nothing.
-use Prim.Native.Nat.{ℕ, zero, suc, ◌+◌, ◌<◌}
+use Prim.Native.Nat.{ℕ, zero, suc, ◌+◌, ◌≤◌, ◌<◌}
 use mathlib.Core.Path.{◌≡◌, refl, sym, ap, ◌∙◌}
 use mathlib.Core.List.{List, [], ◌∷◌}
 use native.Mathlib.Omega.{arith}
@@ -8,12 +8,13 @@ use lib.Dec.{eqb}
 use lib.ListN.{length, get_or, take, drop, replicate, length-replicate, get_or-replicate}
 use lib.Seq.{ext_get_or}
 use Rattle.std.proofs.Common.{Some, None, Result, Ok, Err}
+use Rattle.std.specs.Prelude.{is_err}
 use Rattle.relay.proofs.Truth.{split}
 use Rattle.relay.specs.Choice.{pick}
 use Rattle.relay.specs.Kinds.{table_ok}
 use Rattle.relay.specs.Line.{After}
 use Rattle.relay.specs.declared.Post.{Post}
-use Rattle.sheet.proofs.Forms.{same_reading, on-track}
+use Rattle.sheet.proofs.Forms.{same_reading, taken_too, on-track}
 use Rattle.sheet.proofs.Rooms.{form_one, events-long}
 use Rattle.sheet.proofs.Table.{words_one}
 use Rattle.sheet.proofs.TripRead.{form_is, tracks-long}
@@ -23,12 +24,15 @@ use Rattle.sheet.specs.Layout.{one_track, two_tracks}
 use Rattle.sheet.specs.Reading.{form_ok, table_fits, form_in, verdict_of, decode, decode_tracked}
 use Rattle.sheet.specs.Sheet.{Sheet, circuit_of, of_one, encode}
 use Rattle.sheet.specs.Words.{tab}
+use Rattle.sheet.specs.Writing.{written}
 use Rattle.sheet.specs.declared.refusal.Refusal.{Refusal}
 use Rattle.row.specs.Row.{row_of}
 use Rattle.tracks.specs.Circuit.{AfterTwo, beside}
 use Rattle.working.proofs.Steps.{answered-long}
+use Rattle.working.proofs.Works.{said-table, works_worked, writes-worked}
+use Rattle.working.proofs.WorksTracks.{outcome_stays, works_as}
 use Rattle.working.specs.Run.{begun, next, run, answered_by, answered, marked, begun_by, next_by, run_by, answers_by}
-use Rattle.working.specs.Working.{session, ran_by, ran_events_by, worked_of, worked_tracks_of, work_of, work_tracks_of, worked_bytes, worked_tracks_bytes, Works, WorksTracks, worked, end_of, worked_tracked, work_verdict, work_verdict_up_to}
+use Rattle.working.specs.Working.{first_answered, session, session_at_end, outcome, ran_by, ran_events_by, worked_of, worked_tracks_of, work_of, work_tracks_of, worked_bytes, worked_tracks_bytes, Works, WorksTracks, worked, end_of, worked_tracked, work_verdict, work_verdict_up_to}
 use Rattle.working.specs.declared.Session.{Session}
 use Rattle.working.specs.declared.Worked.{Worked}
 use Rattle.working.specs.declared.WorkedTracks.{WorkedTracks}
@@ -146,3 +150,23 @@ module _ (s : List ℕ) (z : (verdict_of s).number ≡ 0) where
       (λ t. rw (v, t) (ap at_end (end_one s z)))
       (λ t. rw (v, t) refl) in
       (told_one r ∙ ap first_of w.0 ∙ told, w.1 ∙ rw (v, says_one, worked_as (decode s)) refl)
+
+  -- running what it says ends where it ends, and gives its answers, whichever track each event names
+  module _ (ts : List ℕ) where
+    pub run_ends : ran_by one_track (decode s).kinds (decode s).stamp (decode s).events ts ≡ Some (session_at_end (decode_tracked s))
+    run_ends =
+        let same : session_at_end (decode_tracked s) ≡ session one_track (circuit_of (decode s).kinds) (beside (run (begun (decode s).kinds (decode s).stamp) (decode s).events) []) =
+        rw (end_one s z, one s z, table_one s z) refl in
+        ran_one (decode s).kinds (decode s).stamp (decode s).events ts ∙ rw (said-table s z, same) refl
+
+    pub run_answers : ran_events_by one_track (decode s).kinds (decode s).stamp (decode s).events ts ≡ (worked (decode s)).events
+    run_answers = ran_events_one (decode s).kinds (decode s).stamp (decode s).events ts ∙ rw (said-table s z) refl
+
+  module _ (out : List ℕ) where
+    -- refused before that, as any sheet with its events
+    pub works_refused : (r : Refusal) → Err r ≡ outcome (decode_tracked s) (length out) → Works s (worked_of (Err r)) out out
+    works_refused r e = works_one out out (Err r) (works_as s (taken_too s z) out out (Err r) e (outcome_stays (decode_tracked s) out (sym (ap is_err e))))
+
+    -- or worked
+    pub works_ended : length (decode s).events ≤ first_answered (decode s).events → length s ≤ length out → Works s (worked_of (Ok (session_at_end (decode_tracked s)))) out (written (worked (decode s)) out)
+    works_ended fresh h = rw (end_one s z, writes-worked s z out h) (works_worked s out z fresh h)

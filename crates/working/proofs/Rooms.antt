@@ -8,14 +8,15 @@ use lib.Dec.{eqb}
 use Rattle.std.proofs.Common.{Ok, Err}
 use lib.ListN.{length, take}
 use Rattle.relay.proofs.Truth.{and_facts}
-use Rattle.sheet.proofs.AnyRoom.{front_by, good-tracks, bad-tracks}
+use Rattle.sheet.proofs.AnyRoom.{front_by, good, bad, good-tracks, bad-tracks}
 use Rattle.sheet.proofs.Refusals.{refuses}
 use Rattle.sheet.proofs.TripRead.{events-long, tracks-long}
 use Rattle.sheet.proofs.TripWritten.{words-posts}
 use Rattle.sheet.specs.Layout.{two_tracks}
-use Rattle.sheet.specs.Reading.{form_ok, table_fits, verdict_up_to, decode_tracked, read_tracks_of, handed_by}
-use Rattle.sheet.specs.Refusals.{verdict_of_refusal, found_tracks_of}
+use Rattle.sheet.specs.Reading.{form_ok, table_fits, accepted, verdict_up_to, verdict_of, decode, decode_tracked, read_of, read_tracks_of, handed_by}
+use Rattle.sheet.specs.Refusals.{verdict_of_refusal, found_of, found_tracks_of}
 use Rattle.sheet.specs.Sheet.{Tracked, table_words}
+use Rattle.sheet.specs.declared.Found.{Found}
 use Rattle.sheet.specs.declared.FoundTracks.{FoundTracks}
 use Rattle.sheet.specs.declared.Header.{Header}
 use Rattle.sheet.specs.declared.refusal.Refusal.{Refusal}
@@ -75,3 +76,37 @@ module _ (s : List ℕ) where
   unread r e =
       let b = bad-tracks s (found_tracks_of (Err r)) e (refuses r) in
       (b.0, ap (λ (f : FoundTracks). record { number = f.number; block = f.block; position = f.position }) b.1)
+
+-- ---- a sheet of one track
+pub record ReadOne (s : List ℕ) (h : Header) (kinds : List ℕ) (events : List (List ℕ)) : Type 0 where
+  pub taken : (verdict_of s).number ≡ 0
+  pub stamp : h.stamp ≡ (decode s).stamp
+  -- each front fits its room, and says what the sheet says
+  pub kinds_within : h.posts ≤ length kinds
+  pub kinds_are : take h.posts kinds ≡ (decode s).kinds
+  pub events_within : h.events ≤ length events
+  pub events_are : take h.events events ≡ (decode s).events
+
+module _ (s : List ℕ) where
+  pub read_one : (h : Header) (kinds : List ℕ) (events : List (List ℕ)) {kinds' : List ℕ} {events' : List (List ℕ)}
+      → (found_of (Ok h) ≡ read_of s 32 3780)
+      × (kinds' ≡ handed_by 0 (decode s).kinds kinds)
+      × (events' ≡ handed_by 0 (decode s).events events)
+      → ReadOne s h kinds' events'
+  read_one h kinds events e =
+      let g = good s (found_of (Ok h)) e.0 refl in
+      let first = front_by 0 refl _ _ _ _ (ap (λ (f : Found). f.posts) g.1) e.1 in
+      let second = front_by 0 refl _ _ _ _ (ap (λ (f : Found). f.events) g.1) e.2 in
+      record {
+        taken = g.0;
+        stamp = ap (λ (f : Found). f.stamp) g.1;
+        kinds_within = first.1;
+        kinds_are = first.0;
+        events_within = second.1;
+        events_are = second.0;
+      }
+
+  pub unread_one : (r : Refusal) → found_of (Err r) ≡ read_of s 32 3780 → (accepted s ≡ false) × (verdict_of_refusal r ≡ verdict_of s)
+  unread_one r e =
+      let b = bad s (found_of (Err r)) e (refuses r) in
+      (b.0, ap (λ (f : Found). record { number = f.number; block = f.block; position = f.position }) b.1)

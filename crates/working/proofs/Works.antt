@@ -1,7 +1,7 @@
 -- Working a sheet, by its outcomes: refused as reading, refused for an answer, refused for the output, or worked.
 -- Assumes nothing.
 use Prim.Native.Nat.{ℕ, ◌+◌, ◌/◌, ◌≤◌, ◌<◌}
-use mathlib.Core.Path.{◌≡◌, refl}
+use mathlib.Core.Path.{◌≡◌, refl, ap, ◌∙◌}
 use mathlib.Core.Bool.{true, false, ◌&&◌}
 use mathlib.Core.List.{List, [], ◌∷◌, ◌++◌}
 use native.Mathlib.Omega.{arith}
@@ -13,7 +13,8 @@ use Rattle.relay.proofs.Truth.{and_facts}
 use Rattle.relay.specs.Kinds.{table_ok}
 use Rattle.relay.specs.Line.{After}
 use Rattle.row.specs.Row.{row_of}
-use Rattle.sheet.proofs.Rooms.{entries-few, events-long, all_kinds, all_events, table-right}
+use Rattle.sheet.proofs.Rooms.{entries-few, events-long, all_kinds, all_events, table-right, bytes_are}
+use Rattle.sheet.proofs.Refusals.{refuses, number_is}
 use Rattle.sheet.proofs.Fields.{every}
 use Rattle.sheet.proofs.PackingFields.{unpacked-fields}
 use Rattle.sheet.proofs.Tabs.{get_d_tab}
@@ -21,8 +22,12 @@ use Rattle.sheet.specs.Entry.{number_of, post_of, answer_of, stamp_of, in_fields
 use Rattle.sheet.specs.Layout.{per_block, contents_wrong, room_short, one_track}
 use Rattle.sheet.specs.Reading.{accepted, verdict, verdict_of, entries_in, entry_in, decode}
 use Rattle.sheet.specs.Sheet.{encode}
-use Rattle.sheet.specs.Writing.{all_in_fields}
+use Rattle.sheet.specs.Refusals.{refusal_code}
+use Rattle.sheet.specs.Writing.{all_in_fields, bytes_for, write_number, written}
 use Rattle.sheet.specs.declared.Verdict.{Verdict}
+use Rattle.sheet.specs.declared.refusal.Refusal.{Refusal}
+use Rattle.std.proofs.Common.{Result, Ok, Err}
+use Rattle.working.proofs.Steps.{answered-long}
 use Rattle.working.specs.Run.{begun, next, run, answered_by, answered}
 use Rattle.working.specs.Working.{first_answered, worked, refused, work_verdict, work_verdict_up_to, work_of, worked_bytes, Works}
 
@@ -89,3 +94,34 @@ said-fields s z = every (decode s).events (λ i h. rw (all_events s, get_d_tab (
 
 pub said_few : (s : List ℕ) → (verdict_of s).number ≡ 0 → length (decode s).events ≤ 3780
 said_few s z = omega (arith, events-long s, entries-few one_track s z)
+
+-- the worked sheet can be written where the sheet itself would fit
+module _ (s : List ℕ) (z : (verdict_of s).number ≡ 0) where
+  pub said_size : bytes_for (length (decode s).events) ≡ length s
+  said_size = ap bytes_for (events-long s) ∙ bytes_are one_track s z
+
+  count : length (worked (decode s)).events ≡ length (decode s).events
+  count = answered-long _ (decode s).events
+
+  size : bytes_for (length (worked (decode s)).events) ≡ length s
+  size = ap bytes_for count ∙ said_size
+
+  writes-number : (m : ℕ) → length s ≤ m → write_number (worked (decode s)) m ≡ 0
+  unfolding write_number
+  writes-number m h =
+      let t = worked (decode s) in
+      rw (
+        said-table s z,
+        fields_kept (begun (decode s).kinds (decode s).stamp) (decode s).events (said-fields s z),
+        le-leb (length t.events) 3780 (omega (arith, count, said_few s z)),
+        le-leb (bytes_for (length t.events)) m (omega (arith, size)),
+      ) refl
+
+  module _ (out : List ℕ) (h : length s ≤ length out) where
+    pub writes : (r : Result (Unit {0}) Refusal) → refusal_code r ≡ write_number (worked (decode s)) (length out) → ((x : Unit {0}) → r ≡ Ok x → ⊥) → ⊥
+    writes (Ok x) e n = n x refl
+    writes (Err r) e n = refuses r (number_is r ∙ e ∙ writes-number (length out) h)
+
+    pub writes-worked : written (worked (decode s)) out ≡ encode (worked (decode s)) ++ drop (length s) out
+    unfolding written
+    writes-worked = rw (writes-number (length out) h, size) refl

@@ -2,7 +2,7 @@
 -- Assumes nothing.
 use Prim.Native.Nat.{ℕ, ◌+◌, ◌/◌, ◌≤◌, ◌<◌}
 use mathlib.Core.Path.{◌≡◌, refl, ap, ◌∙◌}
-use mathlib.Core.Bool.{Bool, true, false, not, ◌&&◌}
+use mathlib.Core.Bool.{Bool, true, false, not, ◌&&◌, false≢true}
 use mathlib.Core.List.{List, [], ◌∷◌, ◌++◌}
 use native.Mathlib.Omega.{arith}
 use borrow.Author.Tests.{eq-eqb, ne_eqb, le-leb, lt-leb, lt-ltb, le-ltb, eqb-true, eqb-false, leb-true, leb-false}
@@ -28,6 +28,7 @@ use Rattle.sheet.specs.declared.refusal.Refusal.TheVariants.{Contents, RoomShort
 use Rattle.sheet.proofs.Good.{Good}
 use Rattle.sheet.proofs.Refusals.{refuses, number_is}
 use Rattle.std.proofs.Common.{Some, Result, Ok, Err, IfOk}
+use Rattle.std.specs.Prelude.{is_err}
 use Rattle.working.specs.declared.Session.{Session}
 use Rattle.sheet.specs.declared.Verdict.{Verdict}
 use Rattle.tracks.specs.Circuit.{AfterTwo, valid_two, met, at_last, nowhere, no_track, answer_on, event_on, event_two}
@@ -137,6 +138,27 @@ marked-fields (e ∷ es) ts h =
 pub worked-long : (t : Tracked) → length (worked_tracked t).events ≡ length t.events
 worked-long t = said-long (goes_by t.form (circuit_of t.table)) _ (marked t.events t.tracks) ∙ marked-long t.events t.tracks
 
+-- ---- what is refused before the events are run, by the events alone
+module _ (t : Tracked) where
+  pub outcome_answered : (m i : ℕ) → (i ≡ first_answered t.events) × (first_answered t.events < length t.events) → Err (Contents (1 + i / per_block)) ≡ outcome t m
+  unfolding outcome
+  outcome_answered m i f = rw (f.0, lt-ltb _ _ f.1) refl
+
+  pub outcome_short : (m : ℕ) → length t.events ≤ first_answered t.events → m < bytes_for (length t.events) → Err RoomShort ≡ outcome t m
+  unfolding outcome
+  outcome_short m fresh h = rw (le-ltb _ _ fresh, lt-leb _ _ h) refl
+
+  -- and the output stays
+  pub outcome_stays : (out : List ℕ) → is_err (outcome t (length out)) ≡ true → out ≡ outcome_bytes t out
+  unfolding outcome_bytes outcome leaves
+  outcome_stays out e =
+      split (ltb (first_answered t.events) (length t.events))
+      (λ f. rw f refl)
+      (λ f.
+      split (leb (bytes_for (length t.events)) (length out))
+      (λ h. absurd (false≢true (rw (f, h) at e)))
+      (λ h. rw (f, h) refl))
+
 -- ---- answering a sheet that reading took: its table is right, and all is in its field
 module _ (t : Tracked) (start : may_start t ≡ true) (fit : all_fit t ≡ true) (few : length t.events ≤ 3780) where
   -- the worked sheet can be written where the output is long enough
@@ -146,15 +168,6 @@ module _ (t : Tracked) (start : may_start t ≡ true) (fit : all_fit t ≡ true)
       let f = (and_facts (all_in_fields t.events) (tracks_fit t.form (length t.events) t.tracks)).0 fit in
       let fields : all_in_fields (worked_tracked t).events ≡ true = fields_kept _ _ _ (marked t.events t.tracks) (marked-fields t.events t.tracks f.0) in
       rw (start, fields, worked-long t, f.1, le-leb (length t.events) 3780 few) refl
-
-  pub outcome_answered : (m i : ℕ) → (i ≡ first_answered t.events) × (first_answered t.events < length t.events) → Err (Contents (1 + i / per_block)) ≡ outcome t m
-  unfolding outcome
-  outcome_answered m i f = rw (f.0, lt-ltb _ _ f.1) refl
-
-  -- and on that refusal the output stays
-  pub left_answered : (out : List ℕ) → first_answered t.events < length t.events → out ≡ outcome_bytes t out
-  unfolding outcome_bytes outcome leaves
-  left_answered out f = rw (lt-ltb _ _ f) refl
 
   module _ (fresh : length t.events ≤ first_answered t.events) where
     -- what writing the worked sheet returns is the outcome's
@@ -169,16 +182,7 @@ module _ (t : Tracked) (start : may_start t ≡ true) (fit : all_fit t ≡ true)
     unfolding outcome_bytes
     outcome_left out = rw (outcome_number (length out)) refl
 
-    -- refused before the events are run where the output is too short
-    pub outcome_short : (m : ℕ) → m < bytes_for (length t.events) → Err RoomShort ≡ outcome t m
-    unfolding outcome
-    outcome_short m h = rw (le-ltb _ _ fresh, lt-leb _ _ h) refl
-
-    pub left_short : (out : List ℕ) → length out < bytes_for (length t.events) → out ≡ outcome_bytes t out
-    unfolding outcome_bytes outcome leaves
-    left_short out h = rw (le-ltb _ _ fresh, lt-leb _ _ h) refl
-
-    -- else it is written
+    -- it is written where the output is long enough
     pub written : (m : ℕ) → bytes_for (length t.events) ≤ m → (r : Result (Unit {0}) Refusal) → refusal_code r ≡ tracked_number (worked_tracked t) m → ((x : Unit {0}) → r ≡ Ok x → ⊥) → ⊥
     written m h (Ok x) e n = n x refl
     written m h (Err r) e n = refuses r (number_is r ∙ e ∙ worked_number m ∙ rw (le-leb _ _ h) refl)

@@ -2,7 +2,7 @@
 
 #![tactic(auto)]
 
-ghost use Rattle.std.specs.Prelude.{IfOk, ◌≡◌, ◌≤◌, ◌&&◌, true, Some, None, get_or, [], length, ltb};
+ghost use Rattle.std.specs.Prelude.{IfOk, IfErr, OnOk, Err, ◌≡◌, ◌≤◌, ◌&&◌, true, Some, None, get_or, [], length, ltb};
 ghost use Rattle.relay.specs.Choice.{pick};
 ghost use Rattle.relay.specs.Line.{told};
 ghost use Rattle.relay.specs.Valid.{h};
@@ -10,7 +10,7 @@ ghost use Rattle.rows.specs.Rows.{stood_two};
 ghost use Rattle.sheet.specs.Layout.{one_track, two_tracks};
 ghost use Rattle.sheet.specs.Reading.{form_ok, table_fits, decode_tracked};
 ghost use Rattle.row.specs.Row.{row_of};
-ghost use Rattle.sheet.specs.Sheet.{circuit_of};
+ghost use Rattle.sheet.specs.Sheet.{Tracked, circuit_of};
 ghost use Rattle.sheet.specs.Writing.{all_in_fields, tracks_fit, bytes_for};
 ghost use Rattle.working.specs.Working.{begin_by, step_by, ran_by, ran_events_by, first_answered, outcome, outcome_bytes, session_at_end, refused, refused_tracks, worked_of, worked_tracks_of, Works, WorksTracks, section_numbers};
 
@@ -163,6 +163,21 @@ pub fn first_answered(events: &[[u32; 4]]) -> Option<usize>
     events.iter().position(|event| event[2] != UNANSWERED)
 }
 
+// Refuses a sheet of `size` bytes that is answered already, and then an output of `room` bytes that is too short for it.
+fn may_answer(events: &[[u32; 4]], size: usize, room: usize) -> Result<(), Refusal>
+    requires few { length events.now ≤ 3780 }
+    ensures passes { OnOk result ((length events.now ≤ first_answered events.now) × (size ≤ room)) }
+    ensures refuses { IfErr result (λ refusal. (t : Tracked) → t.events ≡ events.now → size ≡ bytes_for (length t.events) → Err refusal ≡ outcome t room) }
+{
+    if let Some(i) = first_answered(events) {
+        return Err(Refusal::Contents(1 + (i / PER_BLOCK) as u32));
+    }
+    if room < size {
+        return Err(Refusal::RoomShort);
+    }
+    Ok(())
+}
+
 // Fills in the answers of a sheet of `size` bytes that reading took, and writes it so to the front of `out`: the session at its end. A refusal leaves `out` as it was.
 fn answer(
     tracks: u32,
@@ -180,12 +195,7 @@ fn answer(
     ensures returned { result ≡ outcome (record { form = tracks; stamp = stamp; table = table.now; events = events.old; tracks = on.now }) (length out.old) }
     ensures written { out.new ≡ outcome_bytes (record { form = tracks; stamp = stamp; table = table.now; events = events.old; tracks = on.now }) out.old }
 {
-    if let Some(i) = first_answered(events) {
-        return Err(Refusal::Contents(1 + (i / PER_BLOCK) as u32));
-    }
-    if out.len() < size {
-        return Err(Refusal::RoomShort);
-    }
+    may_answer(events, size, out.len())?;
     let end = run(tracks, table, stamp, events, on).unwrap();
     let Ok(()) = lent_sheet::write_tracks(tracks, table, stamp, events, on, out) else {
         unreachable!()
@@ -198,8 +208,19 @@ pub fn work(s: &[u8], out: &mut [u8]) -> Result<Session, Refusal>
     ensures worked { Works s.now (worked_of result) out.old out.new }
     ensures ends { IfOk result (λ end. end ≡ session_at_end (decode_tracked s.now)) }
 {
+    // Tested before the rooms, and again as it is read: of a sheet that testing refuses no room is cleared.
     lent_sheet::test(s)?;
-    work_tracks(s, out)
+    let mut kinds = [0u32; 32];
+    let mut events = [[0u32; 4]; MOST_ENTRIES];
+    let header = lent_sheet::read(s, &mut kinds, &mut events)?;
+    let kinds = &kinds[..header.posts as usize];
+    let events = &mut events[..header.events as usize];
+    may_answer(events, s.len(), out.len())?;
+    let end = run(ONE_TRACK, kinds, header.stamp, events, &[]).unwrap();
+    let Ok(()) = lent_sheet::write(kinds, header.stamp, events, out) else {
+        unreachable!()
+    };
+    Ok(end)
 }
 
 // Works a sheet of one track or of two: writes it to the front of `out` with its answers filled in. A refusal leaves `out` as it was.
